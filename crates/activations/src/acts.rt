@@ -44,7 +44,7 @@ impl NamedAses {
         Ok(())
     }
 
-    /// The line of the first one that is no AS of the graph; `None` exactly where each is one.
+    // The line of the first one that is no AS of the graph; `None` exactly where each is one.
     fn first_foreign(&self, graph: &Graph) -> Option<u32>
         ensures value { result ≡ first_foreign_in (has graph.now) self.now }
         ensures none { IfNone result ((a : ℕ) → occurs a (asns_of self.now) ≡ true → has graph.now a ≡ true) }

@@ -20,8 +20,8 @@ use std::alloc::{AllocError, Global};
 /// The most ASes that a graph has.
 pub const MOST_ASES: usize = 150_000;
 
-/// The rows of the ASes at the ends: first the neighbours at its higher ends, then those at its lower
-/// ends.
+// The rows of the ASes at the ends: first the neighbours at its higher ends, then those at its lower
+// ends.
 fn gather(alloc: Global, higher: &[End], lower: &[End]) -> Result<IndexMap<Asn, Row>, GraphError>
     requires higher_by_as { AreByAs higher.now }
     requires lower_by_as { AreByAs lower.now }

@@ -38,8 +38,8 @@ struct Spot {
     bits: u64,
 }
 
-/// Where a pair is marked, among so many words. The lower AS says in which group, the last bits of the higher AS
-/// in which word of it, and three times six bits of the mixed higher AS which bits of the word.
+// Where a pair is marked, among so many words. The lower AS says in which group, the last bits of the higher AS
+// in which word of it, and three times six bits of the mixed higher AS which bits of the word.
 #[tactic(auto, unfolding(crate::specs::Marks::word_of, crate::specs::Marks::bits_of))]
 #[inline(always)]
 fn spot_of(count: usize, lo: Asn, hi: Asn) -> Spot

@@ -6,7 +6,7 @@ ghost use Rattle.cases.specs.Texts.{bundle_text, case_text, content, digit, file
 use crate::case::{Case, CaseFile, Way};
 use std::alloc::{AllocError, Global};
 
-/// A hexadecimal digit.
+// A hexadecimal digit.
 fn digit(value: u8) -> u8
     requires { value < 16 }
     ensures { result ≡ digit value }

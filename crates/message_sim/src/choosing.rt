@@ -23,7 +23,7 @@ pub struct Choice {
     pub(crate) held: Option<Route>,
 }
 
-/// What was received last over a link.
+// What was received last over a link.
 fn received_over(lines: &IndexMap<(Asn, Asn), Line>, from: Asn, to: Asn) -> Option<&Route>
     ensures { option_copied result ≡ received_at lines.now.entries from to }
 {
@@ -33,7 +33,7 @@ fn received_over(lines: &IndexMap<(Asn, Asn), Line>, from: Asn, to: Asn) -> Opti
     }
 }
 
-/// What the receiver has received last of `n`, once it has received the message.
+// What the receiver has received last of `n`, once it has received the message.
 fn heard<'a, P, V>(arrival: &Arrival<'a, P, V>, n: Asn) -> Option<&'a Route>
     ensures { option_copied result ≡
         received_with (λ m. received_at arrival.now.lines.now.entries m arrival.now.to) arrival.now.from
@@ -46,7 +46,7 @@ fn heard<'a, P, V>(arrival: &Arrival<'a, P, V>, n: Asn) -> Option<&'a Route>
     }
 }
 
-/// The view of the offer that a neighbour makes, where it makes one.
+// The view of the offer that a neighbour makes, where it makes one.
 fn view_from<P: RoutePolicy, V: OriginStates>(
     arrival: &Arrival<'_, P, V>,
     neighbour: &Neighbour,
@@ -66,7 +66,7 @@ fn view_from<P: RoutePolicy, V: OriginStates>(
     )
 }
 
-/// The view of the best offer of all neighbours, where one makes an offer.
+// The view of the best offer of all neighbours, where one makes an offer.
 fn best_of_all<P: RoutePolicy, V: OriginStates>(
     arrival: &Arrival<'_, P, V>,
     neighbours: &[Neighbour],
@@ -84,7 +84,7 @@ fn best_of_all<P: RoutePolicy, V: OriginStates>(
     best
 }
 
-/// Whether the new view is there and comes before the old one, or is the old one.
+// Whether the new view is there and comes before the old one, or is the old one.
 fn is_no_worse<P: RoutePolicy>(policy: &P, old: &View, new: &Option<View>) -> bool
     ensures { IsTrue result → IsNoWorse (P.meaning policy.now) old.now new.now }
 {
@@ -94,8 +94,8 @@ fn is_no_worse<P: RoutePolicy>(policy: &P, old: &View, new: &Option<View>) -> bo
     }
 }
 
-/// The view of the best offer once the message has been received, given that of the best one before. All
-/// offers are looked at only where the best one was of this neighbour and has become worse.
+// The view of the best offer once the message has been received, given that of the best one before. All
+// offers are looked at only where the best one was of this neighbour and has become worse.
 fn best_after<P: RoutePolicy, V: OriginStates>(
     arrival: &Arrival<'_, P, V>,
     rel: Rel,
@@ -127,7 +127,7 @@ fn best_after<P: RoutePolicy, V: OriginStates>(
     }
 }
 
-/// What an AS holds of an entry of `n`, which is `rel` to it.
+// What an AS holds of an entry of `n`, which is `rel` to it.
 fn held_of<P: RoutePolicy>(
     alloc: Global,
     sender: &P,
@@ -145,7 +145,7 @@ fn held_of<P: RoutePolicy>(
     Route::put_before(alloc, class_from(rel), a, entry.path.as_slice(), otc)
 }
 
-/// What an AS holds where this is the view of its best offer.
+// What an AS holds where this is the view of its best offer.
 fn held_by_view<P: RoutePolicy, V: OriginStates>(
     alloc: Global,
     arrival: &Arrival<'_, P, V>,
@@ -177,7 +177,7 @@ fn held_by_view<P: RoutePolicy, V: OriginStates>(
     }
 }
 
-/// Whether the best view is as before, and is not that of this neighbour.
+// Whether the best view is as before, and is not that of this neighbour.
 fn is_kept(from: Asn, old: &Option<View>, new: &Option<View>) -> bool
     ensures { IsTrue result → IsKeptView from old.now new.now }
 {

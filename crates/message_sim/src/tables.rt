@@ -48,7 +48,7 @@ pub struct Change {
     pub(crate) news: Vec<News>,
 }
 
-/// The view of the best offer of an AS.
+// The view of the best offer of an AS.
 fn best_of(bests: &IndexMap<Asn, Option<View>>, a: Asn) -> Option<View>
     ensures { result ≡ best_at bests.now.entries a }
 {
@@ -58,7 +58,7 @@ fn best_of(bests: &IndexMap<Asn, Option<View>>, a: Asn) -> Option<View>
     }
 }
 
-/// What an AS that has a new choice tells its neighbours.
+// What an AS that has a new choice tells its neighbours.
 fn news_at<P: RoutePolicy>(
     alloc: Global,
     graph: &Graph,
@@ -83,7 +83,7 @@ fn news_at<P: RoutePolicy>(
     }
 }
 
-/// The change to a new choice, where there is one.
+// The change to a new choice, where there is one.
 fn change_to<P: RoutePolicy, V: OriginStates>(
     alloc: Global,
     ground: &Ground<'_, P, V>,
@@ -112,7 +112,7 @@ fn change_to<P: RoutePolicy, V: OriginStates>(
     }
 }
 
-/// What the message changes at its receiver.
+// What the message changes at its receiver.
 fn change_by<P: RoutePolicy, V: OriginStates>(
     alloc: Global,
     ground: &Ground<'_, P, V>,
@@ -150,7 +150,7 @@ fn change_by<P: RoutePolicy, V: OriginStates>(
     }
 }
 
-/// Writes what an AS newly holds, where its choice has changed.
+// Writes what an AS newly holds, where its choice has changed.
 fn put_change(
     choices: &mut IndexMap<Asn, Option<Route>>,
     bests: &mut IndexMap<Asn, Option<View>>,
@@ -171,7 +171,7 @@ fn put_change(
     }
 }
 
-/// Takes the oldest message from a link, and sends what its receiver tells.
+// Takes the oldest message from a link, and sends what its receiver tells.
 fn move_messages(lines: &mut IndexMap<(Asn, Asn), Line>, from: Asn, to: Asn, news: Vec<News>)
     requires apart { from ≢ to }
     requires some { queue_at lines.old.entries from to ≢ [] }
@@ -183,7 +183,7 @@ fn move_messages(lines: &mut IndexMap<(Asn, Asn), Line>, from: Asn, to: Asn, new
     send_all(lines, to, news);
 }
 
-/// Forgets a link on which no message is under way.
+// Forgets a link on which no message is under way.
 fn forget(
     waiting: &mut BTreeSet<(Asn, Asn)>,
     lines: &IndexMap<(Asn, Asn), Line>,
@@ -250,7 +250,7 @@ pub(crate) fn choice_in(choices: &IndexMap<Asn, Option<Route>>, a: Asn) -> Optio
     }
 }
 
-/// The lowest link on which a message is under way, of all links.
+// The lowest link on which a message is under way, of all links.
 fn lowest_of_all(lines: &IndexMap<(Asn, Asn), Line>) -> Option<(Asn, Asn)>
     ensures { IsLowest lines.now.entries result }
 {
@@ -262,7 +262,7 @@ fn lowest_of_all(lines: &IndexMap<(Asn, Asn), Line>) -> Option<(Asn, Asn)>
     best
 }
 
-/// The link at a place, where a message is under way on it.
+// The link at a place, where a message is under way on it.
 fn waiting_at(lines: &IndexMap<(Asn, Asn), Line>, k: usize) -> Option<(Asn, Asn)>
     ensures { result ≡ waiting_link (slice_get lines.now.entries k) }
 {
@@ -276,7 +276,7 @@ fn waiting_at(lines: &IndexMap<(Asn, Asn), Line>, k: usize) -> Option<(Asn, Asn)
     }
 }
 
-/// The lower one of two links that may be missing.
+// The lower one of two links that may be missing.
 fn lower(new: Option<(Asn, Asn)>, best: Option<(Asn, Asn)>) -> Option<(Asn, Asn)>
     ensures { result ≡ lower_of new best }
 {
@@ -293,7 +293,7 @@ fn lower(new: Option<(Asn, Asn)>, best: Option<(Asn, Asn)>) -> Option<(Asn, Asn)
     }
 }
 
-/// Whether a pair is lower than another.
+// Whether a pair is lower than another.
 fn is_lower(a: Asn, b: Asn, c: Asn, d: Asn) -> bool
     ensures { result ≡ is_lt (pair_cmp (a, b) (c, d)) }
 {

@@ -17,7 +17,7 @@ pub(crate) fn without_last(bits: u128, last: u8) -> u128
     }
 }
 
-/// Whether the first bits are those of the prefix, as many as the prefix is long.
+// Whether the first bits are those of the prefix, as many as the prefix is long.
 fn starts_as(prefix: Prefix, bits: u128) -> bool
     ensures { result ≡ has_bits prefix bits }
 {

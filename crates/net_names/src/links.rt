@@ -73,7 +73,7 @@ impl Model for Links {
     ghost invariant = { λ l. AreLinks l.items.items };
 }
 
-/// Whether the pair is above all of the links, where they rise.
+// Whether the pair is above all of the links, where they rise.
 fn is_past(links: &[Link], lo: Asn, hi: Asn) -> bool
     ensures { IsTrue result → (0 < length links.now) ×
         HoldsAt (λ l. pair_cmp (l.lo, l.hi) (lo, hi) ≡ Less) links.now (length links.now - 1) }
@@ -84,8 +84,8 @@ fn is_past(links: &[Link], lo: Asn, hi: Asn) -> bool
     }
 }
 
-/// Where the pair stands among the links, or where it has to be put in. A pair above the last one is
-/// not searched for.
+// Where the pair stands among the links, or where it has to be put in. A pair above the last one is
+// not searched for.
 fn place_of(links: &[Link], lo: Asn, hi: Asn) -> Result<usize, usize>
     ensures bound { IsSearchInRange result (length links.now) }
     ensures position { IsBinarySearchResult (λ l. pair_cmp (l.lo, l.hi) (lo, hi)) links.now result }
@@ -96,7 +96,7 @@ fn place_of(links: &[Link], lo: Asn, hi: Asn) -> Result<usize, usize>
     links.binary_search_by_key(&(lo, hi), |l| (l.lo, l.hi))
 }
 
-/// Whether the links are at most 1,500,000, each has its lower end first, and their pairs rise.
+// Whether the links are at most 1,500,000, each has its lower end first, and their pairs rise.
 fn are_rising(links: &[Link]) -> bool
     ensures { IsTrue result ↔ AreLinks links.now }
 {

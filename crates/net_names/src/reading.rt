@@ -48,7 +48,7 @@ pub fn number(text: &[u8], radix: u8, most: usize) -> Option<u64>
     Some(number)
 }
 
-/// Up to 3 digits without a leading zero, at most the limit.
+// Up to 3 digits without a leading zero, at most the limit.
 fn plain(text: &[u8], limit: u8) -> Option<u8>
     ensures { result ≡ option_filter (λ n. bytes_eq text.now (decimal n) && nat_le n limit) (numeral 10 3 text.now) }
 {
@@ -60,7 +60,7 @@ fn plain(text: &[u8], limit: u8) -> Option<u8>
     }
 }
 
-/// The number that 1 to 10 digits write, where it is at most 4294967295.
+// The number that 1 to 10 digits write, where it is at most 4294967295.
 fn number_of_32_bits(text: &[u8]) -> Option<u32>
     ensures { result ≡ option_filter (λ n. nat_lt n (2 ^ 32)) (numeral 10 10 text.now) }
 {
@@ -108,7 +108,7 @@ fn read_v4(text: &[u8]) -> Option<u32>
     }
 }
 
-/// A dotted end is not read.
+// A dotted end is not read.
 fn read_v6(text: &[u8]) -> Option<u128>
     ensures { result ≡ (if occurs dot text.now then None else
         option_map (λ groups. from_be_bytes w128 (octets_of groups)) (whole_value (read_ipv6 text.now))) }

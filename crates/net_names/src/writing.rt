@@ -43,7 +43,7 @@ pub fn put_asn(out: &mut Vec<u8>, asn: Asn) -> Result<(), NoMemory>
     put_bytes(out, digits.format(asn.get()).as_bytes())
 }
 
-/// Appends the text of the value, which is at most `MOST_BYTES` long.
+// Appends the text of the value, which is at most `MOST_BYTES` long.
 fn put<D: Display + Drop>(out: &mut Vec<u8>, value: D) -> Result<(), NoMemory>
     ensures ok { OnOk result (IfSome (D.output value) (λ text. out.new.items ≡ out.old.items ++ text)) }
     ensures err { OnErr result (out.new.items ≡ out.old.items) }

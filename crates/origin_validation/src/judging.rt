@@ -10,7 +10,7 @@ use roa_table::Vrps;
 /// Of so few payloads all are looked at, one after the other.
 const FEW: usize = 8;
 
-/// The state by whether a payload that covers the prefix is left, and whether one of those matches.
+// The state by whether a payload that covers the prefix is left, and whether one of those matches.
 fn state_by(found: bool, valid: bool) -> State
     ensures { result ≡ (if valid then State.Valid else if found then State.Invalid else State.NotFound) }
 {
@@ -23,8 +23,8 @@ fn state_by(found: bool, valid: bool) -> State
     }
 }
 
-/// The state of the prefix with the origin over the set without the payload that is left out, by a look at each
-/// payload.
+// The state of the prefix with the origin over the set without the payload that is left out, by a look at each
+// payload.
 fn judge_few(vrps: &Vrps, but: &Option<Vrp>, prefix: Prefix, origin: u32) -> State
     ensures { result ≡ state_of (less vrps.now but.now) prefix origin }
 {

@@ -12,7 +12,7 @@ use roa_table::Vrps;
 /// Of more payloads the matching ones are searched for by their maximum lengths.
 const MANY: usize = 32;
 
-/// Whether the payload is not the one that is left out.
+// Whether the payload is not the one that is left out.
 fn is_left(but: &Option<Vrp>, vrp: Vrp) -> bool
     ensures { result ≡ is_left_of but.now vrp }
 {
@@ -48,7 +48,7 @@ pub(crate) fn has_left(row: &[Vrp], but: &Option<Vrp>) -> bool
     false
 }
 
-/// Whether one of the payloads is left and matches.
+// Whether one of the payloads is left and matches.
 fn some_matches(row: &[Vrp], but: &Option<Vrp>, prefix: Prefix, origin: u32) -> bool
     ensures { result ≡ list_any (λ v. is_left_of but.now v && matches_of prefix origin v) row.now }
 {
@@ -60,7 +60,7 @@ fn some_matches(row: &[Vrp], but: &Option<Vrp>, prefix: Prefix, origin: u32) -> 
     false
 }
 
-/// Whether there is a payload, which is in the set and is left.
+// Whether there is a payload, which is in the set and is left.
 fn stands(vrps: &Vrps, but: &Option<Vrp>, vrp: Option<Vrp>) -> bool
     ensures { result ≡ stands_of vrps.now but.now vrp }
 {
@@ -70,7 +70,7 @@ fn stands(vrps: &Vrps, but: &Option<Vrp>, vrp: Option<Vrp>) -> bool
     }
 }
 
-/// Whether one of the outer prefix's payloads is left and matches, by a search for each maximum length.
+// Whether one of the outer prefix's payloads is left and matches, by a search for each maximum length.
 fn finds_match(vrps: &Vrps, but: &Option<Vrp>, outer: Prefix, prefix: Prefix, origin: u32) -> bool
     requires shorter { outer.len ≤ prefix.len }
     requires positive { 0 < origin }

@@ -18,7 +18,7 @@ const FEW: usize = 512;
 /// The room of so many payloads is given back.
 const MUCH: usize = 65_536;
 
-/// The chunk in which payloads of this prefix stand.
+// The chunk in which payloads of this prefix stand.
 fn home(chunks: &[Chunk], prefix: Prefix) -> usize
     requires order { IsInOrder chunks.now }
     requires some { 0 < length chunks.now }
@@ -69,7 +69,7 @@ pub(crate) fn payloads_from(chunks: &[Chunk], place: usize) -> &[Vrp]
     &[]
 }
 
-/// A chunk for one payload.
+// A chunk for one payload.
 fn put_first(chunks: &mut Vec<Chunk>, alloc: Global, vrp: Vrp) -> Result<(), AllocError>
     requires { chunks.old.items ≡ [] }
     ensures order { IsInOrder chunks.new.items }
@@ -85,7 +85,7 @@ fn put_first(chunks: &mut Vec<Chunk>, alloc: Global, vrp: Vrp) -> Result<(), All
     Ok(())
 }
 
-/// Cuts a chunk in two between two prefixes, where it has two and memory is there.
+// Cuts a chunk in two between two prefixes, where it has two and memory is there.
 fn cut(chunks: &mut Vec<Chunk>, alloc: Global, k: usize)
     requires order { IsInOrder chunks.old.items }
     requires inside { k < length chunks.old.items }
@@ -141,7 +141,7 @@ pub(crate) fn put(chunks: &mut Vec<Chunk>, alloc: Global, vrp: Vrp) -> Result<()
     Ok(())
 }
 
-/// Removes the chunk at this place where no payload stands in it.
+// Removes the chunk at this place where no payload stands in it.
 fn remove_empty(chunks: &mut Vec<Chunk>, k: usize)
     requires order { IsInOrder chunks.old.items }
     requires inside { k < length chunks.old.items }
@@ -170,7 +170,7 @@ pub(crate) fn take(chunks: &mut Vec<Chunk>, vrp: Vrp) -> bool
     found
 }
 
-/// Gives back what room the payloads leave, where it is much.
+// Gives back what room the payloads leave, where it is much.
 fn give_back(vrps: &mut Vec<Vrp>)
     ensures { vrps.new.items ≡ vrps.old.items }
 {
@@ -179,7 +179,7 @@ fn give_back(vrps: &mut Vec<Vrp>)
     }
 }
 
-/// Takes the last payloads into a chunk of their own.
+// Takes the last payloads into a chunk of their own.
 fn take_last(alloc: Global, vrps: &mut Vec<Vrp>) -> Result<Chunk, AllocError>
     requires rising { IsRising vrps.old.items }
     requires some { 0 < length vrps.old.items }

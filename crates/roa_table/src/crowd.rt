@@ -15,7 +15,7 @@ use net_names::Vrp;
 use std::alloc::Global;
 use std::collections::BTreeSet;
 
-/// Lets the payload of a record in, unless the record has a fault.
+// Lets the payload of a record in, unless the record has a fault.
 fn admit(vrps: &mut BTreeSet<Vrp>, row: u64, fields: &ByteRecord) -> Result<(), VrpError>
     ensures ok { OnOk result
         (Admits row (judged row (fields_of fields.now)) vrps.old.keys vrps.new.keys) }

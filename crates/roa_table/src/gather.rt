@@ -55,7 +55,7 @@ impl From<VrpError> for Stop {
     }
 }
 
-/// Puts the payloads in rising order, each once.
+// Puts the payloads in rising order, each once.
 fn tidy(vrps: &mut Vec<Vrp>)
     ensures rising { IsRising vrps.new.items }
     ensures members { (q : VrpValue) → stands_in vrps.new.items q ≡ stands_in vrps.old.items q }
@@ -64,7 +64,7 @@ fn tidy(vrps: &mut Vec<Vrp>)
     vrps.dedup();
 }
 
-/// Why the gathered payloads are not answered, where this fault came behind them.
+// Why the gathered payloads are not answered, where this fault came behind them.
 fn fault_behind(vrps: &mut Vec<Vrp>, fault: VrpError) -> Stop
     ensures { EndsWith fault vrps.old.items result }
 {
@@ -75,7 +75,7 @@ fn fault_behind(vrps: &mut Vec<Vrp>, fault: VrpError) -> Stop
     Stop::Fault(fault)
 }
 
-/// Gathers the payload of a row, where it has one.
+// Gathers the payload of a row, where it has one.
 fn gather_row(vrps: &mut Vec<Vrp>, outcome: Result<Vrp, VrpError>) -> Result<(), Stop>
     ensures ok { OnOk result (Gathers outcome vrps.old.items vrps.new.items) }
     ensures err { IfErr result (StopsAt outcome vrps.old.items) }
@@ -96,7 +96,7 @@ fn gather_row(vrps: &mut Vec<Vrp>, outcome: Result<Vrp, VrpError>) -> Result<(),
     Ok(())
 }
 
-/// The gathered payloads in rising order, unless they are too many.
+// The gathered payloads in rising order, unless they are too many.
 fn finish(mut vrps: Vec<Vrp>) -> Result<Vec<Vrp>, Stop>
     ensures ok { IfOk result (λ vs. IsTidied vrps.items vs.items) }
     ensures err { IfErr result (λ e. (e ≡ stop.Crowded) × (MOST_PAYLOADS < count (set_of vrps.items))) }
@@ -119,7 +119,7 @@ struct Gathered<'a> {
     left: &'a [u8],
 }
 
-/// The payloads of the rows of a text up to one that has a quote, or fewer than three fields, or no line feed behind it.
+// The payloads of the rows of a text up to one that has a quote, or fewer than three fields, or no line feed behind it.
 fn gather_lines<'a>(alloc: Global, bytes: &[u8], text: &'a [u8]) -> Result<Gathered<'a>, Stop>
     requires { BeginsRows bytes.now text.now }
     ensures ok { IfOk result (λ g. IsAtLine g.left.now bytes.now g.row g.vrps.items) }
@@ -139,7 +139,7 @@ fn gather_lines<'a>(alloc: Global, bytes: &[u8], text: &'a [u8]) -> Result<Gathe
     Err(Stop::Memory)
 }
 
-/// The payloads that have been gathered and those of the records that are left.
+// The payloads that have been gathered and those of the records that are left.
 fn gather_records<'a>(
     alloc: Global,
     bytes: &[u8],
@@ -161,7 +161,7 @@ fn gather_records<'a>(
     Err(Stop::Memory)
 }
 
-/// All payloads of a file, in rising order, where each record is read by the reader of records.
+// All payloads of a file, in rising order, where each record is read by the reader of records.
 fn gather_by_records(alloc: Global, bytes: &[u8]) -> Result<Vec<Vrp>, Stop>
     ensures ok { IfOk result (λ vs. AreAll vs.items (payloads_in bytes.now)) }
     ensures err { IfErr result (λ e. Explains e (payloads_in bytes.now)) }

@@ -6,21 +6,21 @@ use crate::errors::VrpError;
 use crate::record::judge_texts;
 use net_names::Vrp;
 
-/// Whether a byte ends a line, or is a quote.
+// Whether a byte ends a line, or is a quote.
 fn stops_line(byte: u8) -> bool
     ensures { result ≡ stops_line_of byte }
 {
     byte == b'"' || byte == b'\r' || byte == b'\n'
 }
 
-/// Whether a byte ends a field or a line, or is a quote.
+// Whether a byte ends a field or a line, or is a quote.
 fn stops_field(byte: u8) -> bool
     ensures { result ≡ stops_field_of byte }
 {
     byte == b',' || stops_line(byte)
 }
 
-/// The place of the first byte that ends a field or a line or is a quote.
+// The place of the first byte that ends a field or a line or is a quote.
 fn find_field_stop(text: &[u8]) -> Option<usize>
     ensures place { result ≡ position stops_field_of text.now }
     ensures within { IfSome result (λ at. at < length text.now) }
@@ -28,7 +28,7 @@ fn find_field_stop(text: &[u8]) -> Option<usize>
     text.iter().position(|byte| stops_field(*byte))
 }
 
-/// The place of the first byte that ends a line or is a quote.
+// The place of the first byte that ends a line or is a quote.
 fn find_line_stop(text: &[u8]) -> Option<usize>
     ensures place { result ≡ position stops_line_of text.now }
     ensures within { IfSome result (λ at. at < length text.now) }
@@ -46,7 +46,7 @@ pub(crate) fn behind(text: &[u8], byte: u8) -> Option<&[u8]>
     Some(&text[1..])
 }
 
-/// The text up to where its first field ends, and the text from there on.
+// The text up to where its first field ends, and the text from there on.
 fn split_field(text: &[u8]) -> Option<(&[u8], &[u8])>
     ensures { IfSome result (λ p. SplitsField text.now p.0.now p.1.now) }
 {
@@ -54,7 +54,7 @@ fn split_field(text: &[u8]) -> Option<(&[u8], &[u8])>
     Some((&text[..at], &text[at..]))
 }
 
-/// The text from the line feed on that ends its first line, where the line has no quote.
+// The text from the line feed on that ends its first line, where the line has no quote.
 fn end_line(text: &[u8]) -> Option<&[u8]>
     ensures { IfSome result (λ rest. EndsLine text.now rest.now) }
 {

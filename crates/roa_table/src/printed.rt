@@ -5,14 +5,14 @@ ghost use Rattle.net_names.specs.Prelude.{prefix_of};
 use crate::plain::behind;
 use net_names::{Family, Prefix, read_digits, read_prefix};
 
-/// Whether digits have a zero in front that no number needs.
+// Whether digits have a zero in front that no number needs.
 fn leads(digits: &[u8]) -> bool
     ensures { result ≡ (nat_lt 1 (length digits.now) && (get_or digits.now 0 0 == 48)) }
 {
     digits.len() > 1 && digits[0] == b'0'
 }
 
-/// The number up to a limit that a text begins with, as it is printed, and what stands behind it.
+// The number up to a limit that a text begins with, as it is printed, and what stands behind it.
 fn read_plain(text: &[u8], limit: u64) -> Option<(u64, &[u8])>
     ensures whole { IfSome result (λ p. text.now ≡ decimal p.0 ++ p.1.now) }
     ensures limit { IfSome result (λ p. p.0 ≤ limit) }
@@ -27,7 +27,7 @@ fn read_plain(text: &[u8], limit: u64) -> Option<(u64, &[u8])>
     Some((run.value, &text[run.len..]))
 }
 
-/// The IPv4 prefix that a text is, where it stands as it is printed.
+// The IPv4 prefix that a text is, where it stands as it is printed.
 fn read_printed(text: &[u8]) -> Option<Prefix>
     ensures { IfSome result (λ p. prefix_of text.now ≡ Some p) }
 {

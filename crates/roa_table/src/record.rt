@@ -9,7 +9,7 @@ use crate::printed::read_any;
 use csv::ByteRecord;
 use net_names::{Prefix, Vrp, number, read_vrp_asn};
 
-/// The maximum length that a text says for a prefix.
+// The maximum length that a text says for a prefix.
 fn read_max(prefix: Prefix, text: &[u8]) -> Option<u64>
     ensures { result ≡ max_of prefix text.now }
 {
@@ -20,7 +20,7 @@ fn read_max(prefix: Prefix, text: &[u8]) -> Option<u64>
     }
 }
 
-/// The payload of a number and a prefix with the maximum length that a text says, in a row of this number.
+// The payload of a number and a prefix with the maximum length that a text says, in a row of this number.
 fn judge_max(row: u64, asn: u32, prefix: Prefix, text: &[u8]) -> Result<Vrp, VrpError>
     ensures { result ≡
         ok_or (option_and_then (λ m. vrp_at prefix m asn) (max_of prefix text.now)) (VrpError.BadMax row) }

@@ -4,21 +4,21 @@ ghost use Rattle.roa_table.specs.Lists.{IsRising, is_below as is_below_of, is_to
 
 use net_names::{Prefix, Vrp};
 
-/// Whether the payload's prefix is below this one.
+// Whether the payload's prefix is below this one.
 fn is_below(prefix: Prefix, vrp: &Vrp) -> bool
     ensures { result ≡ is_below_of prefix vrp.now }
 {
     vrp.prefix().cmp(&prefix).is_lt()
 }
 
-/// Whether the payload's prefix is not above this one.
+// Whether the payload's prefix is not above this one.
 fn is_to(prefix: Prefix, vrp: &Vrp) -> bool
     ensures { result ≡ is_to_of prefix vrp.now }
 {
     !prefix.cmp(&vrp.prefix()).is_lt()
 }
 
-/// How many payloads have a prefix below this one.
+// How many payloads have a prefix below this one.
 fn count_below(vrps: &[Vrp], prefix: Prefix) -> usize
     requires { IsRising vrps.now }
     ensures { CutsAt (is_below_of prefix) vrps.now result }
@@ -26,7 +26,7 @@ fn count_below(vrps: &[Vrp], prefix: Prefix) -> usize
     vrps.partition_point(|vrp| is_below(prefix, vrp))
 }
 
-/// How many payloads have this prefix or one below it.
+// How many payloads have this prefix or one below it.
 fn count_to(vrps: &[Vrp], prefix: Prefix) -> usize
     requires { IsRising vrps.now }
     ensures { CutsAt (is_to_of prefix) vrps.now result }

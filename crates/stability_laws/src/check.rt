@@ -20,7 +20,7 @@ use as_graph::Neighbour;
 use net_names::{Asn, Prefix, Rel};
 use policy_laws::{OriginStates, RoutePolicy, View};
 
-/// The view of the offer that the neighbour makes, where it makes one.
+// The view of the offer that the neighbour makes, where it makes one.
 fn view_from<P: RoutePolicy, V: OriginStates>(
     world: &World<'_, P, V>,
     prefix: Prefix,
@@ -59,7 +59,7 @@ pub fn better<P: RoutePolicy>(policy: &P, best: Option<View>, new: Option<View>)
     }
 }
 
-/// The view of the best offer of the neighbours, where one makes an offer.
+// The view of the best offer of the neighbours, where one makes an offer.
 fn best_among<P: RoutePolicy, V: OriginStates>(
     world: &World<'_, P, V>,
     neighbours: &[Neighbour],
@@ -110,7 +110,7 @@ pub fn holds_given<P: RoutePolicy>(
     has_parts(entry, class_from(from), a, given.path.as_slice(), otc)
 }
 
-/// Whether the entry is that of the offer with this view.
+// Whether the entry is that of the offer with this view.
 fn is_offer<P: RoutePolicy, V: OriginStates>(
     world: &World<'_, P, V>,
     prefix: Prefix,
@@ -137,7 +137,7 @@ fn is_offer<P: RoutePolicy, V: OriginStates>(
     }
 }
 
-/// Whether the AS holds the entry of its seed.
+// Whether the AS holds the entry of its seed.
 fn holds_seed(routing: &Routing, asn: Asn, seed: &Seed) -> bool
     ensures { IsTrue result ↔ (map.get routing.now asn ≡ Some (seed_entry seed.now)) }
 {

@@ -17,7 +17,7 @@ use net_names::{Asn, Class, NoMemory, Path, Prefix};
 use policy_laws::{OriginStates, RoutePolicy, View};
 use std::alloc::Global;
 
-/// The entry of an AS with the seed.
+// The entry of an AS with the seed.
 fn entry_of_seed(alloc: Global, seed: &Seed) -> Result<Entry, NoMemory>
     ensures { IfOk result (λ e. e ≡ seed_entry seed.now) }
 {
@@ -28,7 +28,7 @@ fn entry_of_seed(alloc: Global, seed: &Seed) -> Result<Entry, NoMemory>
     })
 }
 
-/// The entry that the AS holds of the offer with this view, where the neighbour holds the given entry.
+// The entry that the AS holds of the offer with this view, where the neighbour holds the given entry.
 fn entry_given<P: RoutePolicy>(
     alloc: Global,
     book: &Book<P>,

@@ -12,7 +12,7 @@ use crate::seed_plan::SeedPlan;
 use net_names::{Asn, Class, MOST_IN_PATH, NoMemory, Prefix};
 use std::alloc::Global;
 
-/// Puts the seed in, and nothing else.
+// Puts the seed in, and nothing else.
 fn put_seed(asn: Asn, seed: Seed, seeds: &mut Seeds) -> Result<(), NoMemory>
     requires { length seed.path ≤ MOST_IN_PATH }
     ensures this { OnOk result (map.get seeds.new asn ≡ Some seed) }
@@ -21,7 +21,7 @@ fn put_seed(asn: Asn, seed: Seed, seeds: &mut Seeds) -> Result<(), NoMemory>
     seeds.put(asn, seed)
 }
 
-/// Puts in what the AS announces of the prefix, where it announces it.
+// Puts in what the AS announces of the prefix, where it announces it.
 fn announce(
     alloc: Global,
     plan: &SeedPlan,
@@ -40,7 +40,7 @@ fn announce(
     put_seed(asn, Seed { path, otc: None }, seeds)
 }
 
-/// The seeds of those who announce the prefix.
+// The seeds of those who announce the prefix.
 fn announce_all(alloc: Global, plan: &SeedPlan, prefix: Prefix) -> Result<Seeds, NoMemory>
     ensures { IfOk result (λ s. (a : ℕ) → map.get s a ≡ announced_seed plan.now prefix a) }
 {
@@ -51,7 +51,7 @@ fn announce_all(alloc: Global, plan: &SeedPlan, prefix: Prefix) -> Result<Seeds,
     Ok(seeds)
 }
 
-/// Whether no peer and no provider gave an entry of this class.
+// Whether no peer and no provider gave an entry of this class.
 fn is_own_or_given_by_customer(class: Class) -> bool
     ensures { result ≡ is_own_or_customers class }
 {
@@ -61,7 +61,7 @@ fn is_own_or_given_by_customer(class: Class) -> bool
     }
 }
 
-/// Puts in what a leaker leaks of what it held in the round before, unless it has a seed.
+// Puts in what a leaker leaks of what it held in the round before, unless it has a seed.
 fn leak(alloc: Global, asn: Asn, before: &Routing, seeds: &mut Seeds) -> Result<(), NoMemory>
     ensures this { OnOk result (map.get seeds.new asn ≡
         own_or_leaked (map.get seeds.old asn) true (map.get before.now asn)) }
@@ -81,7 +81,7 @@ fn leak(alloc: Global, asn: Asn, before: &Routing, seeds: &mut Seeds) -> Result<
     put_seed(asn, Seed { path, otc }, seeds)
 }
 
-/// Puts in what the leakers of the round leak, unless they have seeds.
+// Puts in what the leakers of the round leak, unless they have seeds.
 fn leak_all(
     alloc: Global,
     plan: &SeedPlan,

@@ -26,7 +26,7 @@ pub fn same_number(a: Option<Asn>, b: Option<Asn>) -> bool
     a == b
 }
 
-/// Whether the path is `a`, followed by the rest.
+// Whether the path is `a`, followed by the rest.
 fn is_longer(path: &[Asn], a: Asn, rest: &[Asn]) -> bool
     ensures { IsTrue result ↔ (path.now ≡ a ∷ rest.now) }
 {

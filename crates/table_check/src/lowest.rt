@@ -36,7 +36,7 @@ fn is_fine<P: RoutePolicy, V: OriginStates>(
     check_at(world, prefix, seeds, routing, asn).is_ok()
 }
 
-/// The lower one of two numbers that may be missing.
+// The lower one of two numbers that may be missing.
 fn lower(one: Option<Asn>, other: Option<Asn>) -> Option<Asn>
     ensures { result ≡ lower_of one other }
 {
@@ -49,8 +49,8 @@ fn lower(one: Option<Asn>, other: Option<Asn>) -> Option<Asn>
     if b.get() < a.get() { other } else { one }
 }
 
-/// The least number above `after` that is an AS or holds something, or the least of all where there
-/// is no bound.
+// The least number above `after` that is an AS or holds something, or the least of all where there
+// is no bound.
 fn next_named(graph: &Graph, routing: &Routing, after: Option<Asn>) -> Option<Asn>
     ensures found { IfSome result (IsNextNamed (has graph.now) (map.get routing.now) after) }
     ensures none { IfNone result ((k : ℕ) → IsAbove after k → IsUnnamed (has graph.now) (map.get routing.now) k) }
