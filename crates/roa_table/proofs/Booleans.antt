@@ -1,6 +1,5 @@
 -- Tests of the elements of a list.
-use Rattle.std.proofs.Common.{◌≡◌, ℕ, zero, suc, ◌<◌, ◌≤◌, length, take, drop, get_or, arith, Bool, true, false, cond, not, ◌||◌, ◌&&◌, List, [], ◌∷◌, ◌++◌, refl, ap, ◌∙◌, ◌⊎◌, inl, inr, Result, Ok, Err}
-use Rattle.std.specs.Result.{OnErr}
+use Rattle.std.proofs.Common.{◌≡◌, ℕ, zero, suc, ◌<◌, ◌≤◌, length, take, drop, get_or, arith, Bool, true, false, cond, ◌||◌, ◌&&◌, List, [], ◌∷◌, ◌++◌, refl, ap, ◌∙◌}
 use Rattle.std.specs.List.{insert, remove, list_any, list_all, filter, AllByRecursion}
 use Rattle.std.proofs.lemmas.List.Elements.{filter-append}
 use Rattle.net_names.proofs.Shortening.{both, both_true}

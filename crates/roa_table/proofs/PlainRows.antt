@@ -1,11 +1,13 @@
 -- The record of a row without quotes: its fields are what stands between its commas.
-use Rattle.std.proofs.Common.{◌≡◌, ℕ, zero, suc, ◌<◌, ◌≤◌, ◌+◌, Bool, true, false, cond, not, ◌||◌, List, [], ◌∷◌, ◌++◌, take, drop, get_or, take-append-drop, length-drop, ◌-◌, ◌&&◌, Option, Some, refl, sym, ap, subst, ◌∙◌, length, arith, inl, inr, ◌⊎◌}
+use Rattle.std.proofs.Common.{◌≡◌, ℕ, zero, suc, ◌<◌, ◌≤◌, ◌+◌, Bool, true, false, cond, not, ◌||◌, List, [], ◌∷◌, ◌++◌, take, drop, get_or, take-append-drop, length-drop, ◌-◌, ◌&&◌, Option, Some, None, refl, sym, ap, subst, ◌∙◌, length, arith, inl, inr, ◌⊎◌}
 use Rattle.std.specs.Prelude.{◌==◌}
-use Rattle.std.specs.List.{list_all, position}
+use Rattle.std.specs.List.{list_all, position, position_or_len}
 use Rattle.std.proofs.lemmas.List.{drop_more, take_all}
 use Rattle.std.proofs.lemmas.List.Folds.{list_all_more}
+use Rattle.std.proofs.lemmas.Grind.{common_steps}
 use Rattle.std.proofs.lemmas.List.Quantifiers.{position-Some}
-use Rattle.csv.specs.Machine.{Read, next_record, step, is_end, fields_after, field_after}
+use Rattle.std.proofs.lemmas.List.Sums.{fails_before_first, list_all-from_AllPass}
+use Rattle.csv.specs.Machine.{Read, next_record, step, is_end, ends_at_end, fields_after, field_after}
 use Rattle.csv.specs.Reading.{records, records_from, records_next, default_config, strip_bom, is_bom}
 use Rattle.csv.specs.declared.parser.State.{State}
 use Rattle.csv.specs.declared.parser.State.TheVariants as st
@@ -14,11 +16,11 @@ use Rattle.csv.specs.declared.parser.Action.TheVariants as act
 use Rattle.std.proofs.lemmas.Bool.{eqb-true, ne_eqb}
 use Rattle.net_names.proofs.Shortening.{both}
 use Rattle.roa_table.specs.Standing.{Record, records_left}
-use Rattle.roa_table.specs.Plain.{stops_line, stops_field, SplitsField, EndsLine, BeginsRows}
-use Rattle.roa_table.proofs.CsvRecords.{enough, records_suc, left_is, left_some}
+use Rattle.roa_table.specs.Plain.{stops_line, stops_field, SplitsField, EndsLine, IsLineEnd, BeginsRows}
+use Rattle.roa_table.proofs.CsvRecords.{enough, records_suc, left_is, left_none, left_some}
 use Rattle.std.proofs.lemmas.Bool.{not-true as not_so}
 
-append_none : {X : Type 0} (xs : List X) → xs ++ [] ≡ xs
+pub append_none : {X : Type 0} (xs : List X) → xs ++ [] ≡ xs
 append_none [] = refl
 append_none (x ∷ xs) = ap (λ l. x ∷ l) (append_none xs)
 
@@ -119,6 +121,17 @@ at_feed : (b : Bool) → step default_config (inside b) 10 ≡ (st.StartRecord, 
 at_feed true = refl
 at_feed false = refl
 
+-- the end of the text ends the record
+at_end : (b : Bool) (fields : Record) (field : List ℕ) → next_record default_config (inside b) fields field [] ≡ Some (fields ++ (field ∷ []), st.StartRecord, [])
+unfolding next_record
+at_end true fields field = refl
+at_end false fields field = refl
+
+-- where no record is open, it has none
+none_at_end : (s : State) → ends_at_end s ≡ false → next_record default_config s [] [] [] ≡ None
+unfolding next_record
+none_at_end s e = ap (λ b. cond b (Some ([] ∷ [], st.StartRecord, [])) None) e
+
 at_return : (b : Bool) → step default_config (inside b) 13 ≡ (st.AfterCr, act.EndRecord)
 at_return true = refl
 at_return false = refl
@@ -145,28 +158,43 @@ pub record Ends (s : State) (fields : Record) (field text : List ℕ) (known : R
   pub starts : read.0 ≡ known ++ more
   pub left : records_left read.1 read.2 ≡ records_left st.StartRecord rest
 
-module _ (behind rest : List ℕ) (begins : rest ≡ 10 ∷ behind) where
-  ends_here : (b : Bool) (fields : Record) (field text : List ℕ) → (text ≡ rest) ⊎ (text ≡ 13 ∷ rest) → Ends (inside b) fields field text (fields ++ (field ∷ [])) rest
-  ends_here b fields field text (inl e) = record {
-    read = (fields ++ (field ∷ []), st.StartRecord, behind);
-    is = ap (next_record default_config (inside b) fields field) (e ∙ begins) ∙ read_step (inside b) 10 (st.StartRecord, act.EndRecord) (at_feed b) fields field behind;
-    more = [];
-    starts = sym (append_none (fields ++ (field ∷ [])));
-    left = sym (ap (records_left st.StartRecord) begins ∙ behind_feed behind);
-  }
-  ends_here b fields field text (inr e) = record {
-    read = (fields ++ (field ∷ []), st.AfterCr, rest);
-    is = ap (next_record default_config (inside b) fields field) e ∙ read_step (inside b) 13 (st.AfterCr, act.EndRecord) (at_return b) fields field rest;
-    more = [];
-    starts = sym (append_none (fields ++ (field ∷ [])));
-    left = ap (records_left st.AfterCr) begins ∙ skipped st.AfterCr 10 behind refl ∙ sym (ap (records_left st.StartRecord) begins ∙ behind_feed behind);
-  }
+-- a line ends here, in a field or behind a comma
+ends_here : (rest : List ℕ) → IsLineEnd rest → (b : Bool) (fields : Record) (field text : List ℕ) → (text ≡ rest) ⊎ (text ≡ 13 ∷ rest) → Ends (inside b) fields field text (fields ++ (field ∷ [])) rest
+ends_here [] end b fields field text (inl e) = record {
+  read = (fields ++ (field ∷ []), st.StartRecord, []);
+  is = ap (next_record default_config (inside b) fields field) e ∙ at_end b fields field;
+  more = [];
+  starts = sym (append_none (fields ++ (field ∷ [])));
+  left = refl;
+}
+ends_here [] end b fields field text (inr e) = record {
+  read = (fields ++ (field ∷ []), st.AfterCr, []);
+  is = ap (next_record default_config (inside b) fields field) e ∙ read_step (inside b) 13 (st.AfterCr, act.EndRecord) (at_return b) fields field [];
+  more = [];
+  starts = sym (append_none (fields ++ (field ∷ [])));
+  left = left_none st.AfterCr [] (none_at_end st.AfterCr refl) ∙ sym (left_none st.StartRecord [] (none_at_end st.StartRecord refl));
+}
+ends_here (c ∷ behind) end b fields field text (inl e) = record {
+  read = (fields ++ (field ∷ []), st.StartRecord, behind);
+  is = ap (next_record default_config (inside b) fields field) (e ∙ ap (λ x. x ∷ behind) end) ∙ read_step (inside b) 10 (st.StartRecord, act.EndRecord) (at_feed b) fields field behind;
+  more = [];
+  starts = sym (append_none (fields ++ (field ∷ [])));
+  left = sym (ap (λ x. records_left st.StartRecord (x ∷ behind)) end ∙ behind_feed behind);
+}
+ends_here (c ∷ behind) end b fields field text (inr e) = record {
+  read = (fields ++ (field ∷ []), st.AfterCr, c ∷ behind);
+  is = ap (next_record default_config (inside b) fields field) e ∙ read_step (inside b) 13 (st.AfterCr, act.EndRecord) (at_return b) fields field (c ∷ behind);
+  more = [];
+  starts = sym (append_none (fields ++ (field ∷ [])));
+  left = ap (λ x. records_left st.AfterCr (x ∷ behind)) end ∙ skipped st.AfterCr 10 behind refl ∙ sym (ap (λ x. records_left st.StartRecord (x ∷ behind)) end ∙ behind_feed behind);
+}
 
+module _ (rest : List ℕ) (end : IsLineEnd rest) where
   module _ (last : List ℕ) (is_last : (last ≡ rest) ⊎ (last ≡ 13 ∷ rest)) where
     -- the rest of a line without quotes
     line_ends : (b : Bool) (part : List ℕ) (fields : Record) (field : List ℕ) → list_all (λ c. not (stops_line c)) part ≡ true → Ends (inside b) fields field (part ++ last) fields rest
     line_ends b [] fields field h =
-        let e = ends_here b fields field last is_last in
+        let e = ends_here rest end b fields field last is_last in
         record { read = e.read; is = e.is; more = field ∷ e.more; starts = e.starts ∙ assoc fields (field ∷ []) e.more; left = e.left }
     line_ends b (c ∷ part) fields field h =
         let k = both _ _ h in
@@ -203,10 +231,10 @@ module _ (behind rest : List ℕ) (begins : rest ≡ 10 ∷ behind) where
 
     -- the last field of a line
     field_ends : (field : List ℕ) (fields : Record) → list_all (λ c. not (stops_field c)) field ≡ true → Ends st.StartField fields [] (field ++ last) (fields ++ (field ∷ [])) rest
-    field_ends [] fields h = ends_here true fields [] last is_last
+    field_ends [] fields h = ends_here rest end true fields [] last is_last
     field_ends (c ∷ front) fields h =
         let k = both _ _ h in
-        let e = ends_here false fields (c ∷ front) last is_last in
+        let e = ends_here rest end false fields (c ∷ front) last is_last in
         record {
           read = e.read;
           is = read_step st.StartField c (st.InField, act.Copy) (step_start c (not_so (stops_field c) k.left)) fields [] (front ++ last) ∙ copies front last fields (c ∷ []) k.right ∙ e.is;
@@ -236,7 +264,7 @@ module _ (behind rest : List ℕ) (begins : rest ≡ 10 ∷ behind) where
         only_comma false true e h = cc e
         only_comma false false e h = cc h
 
-head_is : (x y : ℕ) (xs ys : List ℕ) → x ∷ xs ≡ y ∷ ys → x ≡ y
+pub head_is : (x y : ℕ) (xs ys : List ℕ) → x ∷ xs ≡ y ∷ ys → x ≡ y
 head_is x y xs ys e = ap head e
   where
     head : List ℕ → ℕ
@@ -252,8 +280,8 @@ module _ (text line asn one one_left prefix two two_left max more left : List �
     (second_comma : two ≡ 44 ∷ two_left) (third : SplitsField two_left max more) (ends : EndsLine more left) where
   third_ends : (last : List ℕ) → more ≡ ends.part ++ last → (last ≡ left) ⊎ (last ≡ 13 ∷ left) → Ends st.StartField (asn ∷ prefix ∷ []) [] two_left (asn ∷ prefix ∷ max ∷ []) left
   third_ends last e is_last =
-      let r = field_goes_on ends.behind left ends.begins last is_last ends.part max (asn ∷ prefix ∷ []) third.free ends.free
-      (λ c cs q. subst (λ x. stops_field x ≡ true) (head_is third.stop c third.behind cs (sym third.begins ∙ e ∙ q)) third.stops) in
+      let r = field_goes_on left ends.ends last is_last ends.part max (asn ∷ prefix ∷ []) third.free ends.free
+      (λ c cs q. third.stops c cs (e ∙ q)) in
       subst (λ t. Ends st.StartField (asn ∷ prefix ∷ []) [] t (asn ∷ prefix ∷ max ∷ []) left) (sym (third.whole ∙ ap (λ l. max ++ l) e)) r
 
   either : (more ≡ ends.part ++ left) ⊎ (more ≡ ends.part ++ 13 ∷ left) → Ends st.StartField (asn ∷ prefix ∷ []) [] two_left (asn ∷ prefix ∷ max ∷ []) left
@@ -278,16 +306,26 @@ strip_bom-other a [] h = refl
 strip_bom-other a (b ∷ []) h = refl
 strip_bom-other a (b ∷ (c ∷ xs)) h = ap (λ (x : Bool). cond x xs (a ∷ (b ∷ (c ∷ xs)))) (let e : is_bom a b c ≡ false = rw h refl in e)
 
+-- nor has one where a line ends
+pub strip_bom-line_end : (text : List ℕ) → IsLineEnd text → strip_bom text ≡ text
+unfolding strip_bom
+strip_bom-line_end [] end = refl
+strip_bom-line_end (c ∷ behind) end = strip_bom-other c behind (ap (λ x. x == 239) end)
+
 drop_zero : (xs : List Record) → drop 0 xs ≡ xs
 drop_zero [] = refl
 drop_zero (x ∷ xs) = refl
 
 -- what stands behind the header of a file, which begins with no byte order mark
 module _ (first : ℕ) (text left : List ℕ) (other : (first == 239) ≡ false) (plain : stops_line first ≡ false) (ends : EndsLine (first ∷ text) left) where
+  begins_no_end : {X : Type 0} (rest : List ℕ) → IsLineEnd rest → first ∷ text ≡ rest → X
+  begins_no_end [] end e = cc e
+  begins_no_end (c ∷ behind) end e = let no : stops_line first ≡ true = ap stops_line (head_is first c text behind e ∙ end) in cc (sym no ∙ plain)
+
   header_ends : (last : List ℕ) → (last ≡ left) ⊎ (last ≡ 13 ∷ left) → (part : List ℕ) → list_all (λ c. not (stops_line c)) part ≡ true → first ∷ text ≡ part ++ last → Ends st.StartRecord [] [] (first ∷ text) [] left
-  header_ends last (inl q) [] free e = let no : stops_line first ≡ true = ap stops_line (head_is first 10 text ends.behind (e ∙ q ∙ ends.begins)) in cc (sym no ∙ plain)
+  header_ends last (inl q) [] free e = begins_no_end left ends.ends (e ∙ q)
   header_ends last (inr q) [] free e = let no : stops_line first ≡ true = ap stops_line (head_is first 13 text left (e ∙ q)) in cc (sym no ∙ plain)
-  header_ends last is_last (c ∷ part) free e = subst (λ t. Ends st.StartRecord [] [] t [] left) (sym e) (opening_line ends.behind left ends.begins last is_last c part free)
+  header_ends last is_last (c ∷ part) free e = subst (λ t. Ends st.StartRecord [] [] t [] left) (sym e) (opening_line left ends.ends last is_last c part free)
 
   ends_either : (first ∷ text ≡ ends.part ++ left) ⊎ (first ∷ text ≡ ends.part ++ 13 ∷ left) → Ends st.StartRecord [] [] (first ∷ text) [] left
   ends_either (inl e) = header_ends left (inl refl) ends.part ends.free e
@@ -298,8 +336,7 @@ module _ (first : ℕ) (text left : List ℕ) (other : (first == 239) ≡ false)
       let r = ends_either ends.whole in
       record {
         is = ap (λ t. drop 1 (records default_config t)) (strip_bom-other first text other) ∙ ap (drop 1) (left_some st.StartRecord (first ∷ text) r.read refl r.is) ∙ drop_zero (records_left r.read.1 r.read.2) ∙ r.left;
-        behind = ends.behind;
-        begins = ends.begins;
+        ends = ends.ends;
       }
 
 pub behind_header : (text left : List ℕ) → 0 < length text → (get_or text 0 0 ≡ 239 → ⊥) → stops_line (get_or text 0 0) ≡ false → EndsLine text left → BeginsRows text left
@@ -327,6 +364,12 @@ module _ (p : ℕ → Bool) (text : List ℕ) (at : ℕ) (found : Some at ≡ po
 
   pub stops_at : p (get_or text at 0) ≡ true
   stops_at = facts.1
+
+-- a text in which no byte passes the test
+pub free_of : (p : ℕ → Bool) (text : List ℕ) → None ≡ position p text → list_all (λ b. not (p b)) text ≡ true
+free_of p text none =
+    let all : length text ≤ position_or_len p text = grind (arith, common_steps) in
+    list_all-from_AllPass (λ b. not (p b)) text (λ k d less. ap not (fails_before_first p text k d (omega (arith, all, less))))
 
 -- what a slice from a place on has
 pub slice_from : (text : List ℕ) (at : ℕ) → take (length text - at) (drop at text) ≡ drop at text

@@ -26,7 +26,7 @@ use Rattle.roa_table.proofs.Booleans.{list_all_append, either_true}
 use Rattle.roa_table.proofs.Rising.{eq_is}
 use Rattle.roa_table.proofs.Placed.{same_set_of, count_set_of}
 use Rattle.roa_table.proofs.CsvRecords.{ended, more}
-use Rattle.roa_table.proofs.PlainRows.{strip_bom-other}
+use Rattle.roa_table.proofs.PlainRows.{strip_bom-line_end}
 use Rattle.roa_table.proofs.Gathered.{first_fault, faulty, rows_assoc, stands_in-push, payloads_of-push, first_behind, few_behind}
 
 -- the file has no header, and so no rows
@@ -153,7 +153,7 @@ pub read_from_line : (b : ByteReader) (text bytes : List ℕ) (row : ℕ) (vs : 
 read_from_line b text bytes row vs g s = record {
   left = records_left st.StartRecord text;
   gathered = g.gathered;
-  stands = subst (Stands b) (ap (records default_config) (ap strip_bom g.begins ∙ strip_bom-other 10 g.behind refl ∙ sym g.begins)) s;
+  stands = subst (Stands b) (ap (records default_config) (strip_bom-line_end text g.ends)) s;
 }
 
 -- the reader has read one row more
@@ -171,8 +171,7 @@ row_stopped a b bytes row vs g fields h = let m = more b g.left fields h in stop
 pub line_gathered : (text left bytes : List ℕ) (row : ℕ) (vs new : List VrpValue) (outcome : Result VrpValue VrpError) → IsAtLine text bytes row vs → BeginsWith text row outcome left → Gathers outcome vs new → IsAtLine left bytes (row + 1) new
 line_gathered text left bytes row vs new outcome g b j = record {
   gathered = gathered_on bytes (records_left st.StartRecord text) row vs g.gathered b.fields (records_left st.StartRecord left) b.is outcome b.gives new j;
-  behind = b.behind;
-  begins = b.begins;
+  ends = b.ends;
 }
 
 pub line_stopped : (text left bytes : List ℕ) (row : ℕ) (vs : List VrpValue) (outcome : Result VrpValue VrpError) → IsAtLine text bytes row vs → BeginsWith text row outcome left → (stop : Stop) → StopsAt outcome vs stop → Explains stop (payloads_in bytes)

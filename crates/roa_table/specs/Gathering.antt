@@ -1,5 +1,5 @@
 -- How far a file has been read.
-use Rattle.std.specs.Prelude.{◌≡◌, ℕ, ◌+◌, ◌<◌, ◌≤◌, ◌||◌, true, List, [], ◌∷◌, ◌++◌, length, Option, Some, None, Result, Ok, Err, IsErr, is_ok, ⊤}
+use Rattle.std.specs.Prelude.{◌≡◌, ℕ, ◌+◌, ◌<◌, ◌≤◌, ◌||◌, true, List, [], ◌++◌, length, Option, Some, None, Result, Ok, Err, IsErr, is_ok, ⊤}
 use Rattle.std.specs.List.{list_all}
 use Rattle.std.specs.Ordering.{eq_by_cmp}
 use Rattle.net_names.specs.Payloads.{VrpValue, vrp_cmp}
@@ -9,6 +9,7 @@ use Rattle.roa_table.specs.Records.{payload_of}
 use Rattle.net_names.specs.Steps.{first_fault}
 use Rattle.roa_table.specs.Files.{rows_of, given, fault_of}
 use Rattle.csv.specs.declared.parser.State.TheVariants as st
+use Rattle.roa_table.specs.Plain.{IsLineEnd}
 use Rattle.roa_table.specs.Standing.{Record, ByteReader, records_left, Stands}
 use Rattle.roa_table.specs.Judging.{fault_at, payloads_of}
 use Rattle.roa_table.specs.declared.errors.VrpError.{VrpError}
@@ -85,11 +86,10 @@ pub record IsGathering (reader : ByteReader) (bytes : List ℕ) (row : ℕ) (vs 
   pub gathered : HasGathered bytes left row vs
   pub stands : Stands reader left
 
--- the payloads of the rows before those of this text have been gathered, and the text begins with a line feed
+-- the payloads of the rows before those of this text have been gathered, and a line ends where the text begins
 pub record IsAtLine (text : List ℕ) (bytes : List ℕ) (row : ℕ) (vs : List VrpValue) : Type 0 where
   pub gathered : HasGathered bytes (records_left st.StartRecord text) row vs
-  pub behind : List ℕ
-  pub begins : text ≡ 10 ∷ behind
+  pub ends : IsLineEnd text
 
 -- the payload of a record of this number has been let in, where it is no fault
 abbrev pub Admits : ℕ → Result VrpValue VrpError → List VrpValue → List VrpValue → Type 0

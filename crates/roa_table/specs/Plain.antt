@@ -1,5 +1,5 @@
 -- Rows without quotes, as they stand in a file.
-use Rattle.std.specs.Prelude.{◌≡◌, ℕ, ◌||◌, ◌==◌, ◌⊎◌, Bool, true, not, List, ◌∷◌, ◌++◌, Result}
+use Rattle.std.specs.Prelude.{◌≡◌, ℕ, ◌||◌, ◌==◌, ◌⊎◌, Bool, true, not, List, [], ◌∷◌, ◌++◌, Result, ⊤}
 use Rattle.std.specs.List.{list_all}
 use Rattle.net_names.specs.Payloads.{VrpValue}
 use Rattle.csv.specs.declared.parser.State.TheVariants as st
@@ -16,21 +16,22 @@ stops_line b = (b == 34) || ((b == 13) || (b == 10))
 abbrev pub stops_field : ℕ → Bool
 stops_field b = (b == 44) || stops_line b
 
--- the text has bytes that stop no field, and then this, which begins with one that does
+-- the text has bytes that stop no field, and then this, which begins with one that does, or is empty
 pub record SplitsField (text field more : List ℕ) : Type 0 where
   pub free : list_all (λ b. not (stops_field b)) field ≡ true
   pub whole : text ≡ field ++ more
-  pub stop : ℕ
-  pub behind : List ℕ
-  pub begins : more ≡ stop ∷ behind
-  pub stops : stops_field stop ≡ true
+  pub stops : (stop : ℕ) (behind : List ℕ) → more ≡ stop ∷ behind → stops_field stop ≡ true
 
--- the text has bytes that stop no line, maybe a carriage return, and then this, which begins with a line feed
+-- a line ends here: with a line feed, or with the text
+abbrev pub IsLineEnd : List ℕ → Type 0
+IsLineEnd [] = ⊤
+IsLineEnd (byte ∷ behind) = byte ≡ 10
+
+-- the text has bytes that stop no line, maybe a carriage return, and then this, with which the line ends
 pub record EndsLine (text rest : List ℕ) : Type 0 where
   pub part : List ℕ
   pub free : list_all (λ b. not (stops_line b)) part ≡ true
-  pub behind : List ℕ
-  pub begins : rest ≡ 10 ∷ behind
+  pub ends : IsLineEnd rest
   pub whole : (text ≡ part ++ rest) ⊎ (text ≡ part ++ 13 ∷ rest)
 
 -- the first record of a text gives this in a row of that number, and the other records are those of what is left
@@ -38,11 +39,9 @@ pub record BeginsWith (text : List ℕ) (row : ℕ) (outcome : Result VrpValue V
   pub fields : Record
   pub is : records_left st.StartRecord text ≡ fields ∷ records_left st.StartRecord left
   pub gives : outcome ≡ judged row fields
-  pub behind : List ℕ
-  pub begins : left ≡ 10 ∷ behind
+  pub ends : IsLineEnd left
 
 -- the rows of a file are the records of what its header leaves
 pub record BeginsRows (text left : List ℕ) : Type 0 where
   pub is : rows_of text ≡ records_left st.StartRecord left
-  pub behind : List ℕ
-  pub begins : left ≡ 10 ∷ behind
+  pub ends : IsLineEnd left

@@ -46,19 +46,33 @@ pub(crate) fn behind(text: &[u8], byte: u8) -> Option<&[u8]>
     Some(&text[1..])
 }
 
+<<<<<<< HEAD
 // The text up to where its first field ends, and the text from there on.
 fn split_field(text: &[u8]) -> Option<(&[u8], &[u8])>
     ensures { IfSome result (λ p. SplitsField text.now p.0.now p.1.now) }
+=======
+/// The text up to where its first field ends, and the text from there on.
+fn split_field(text: &[u8]) -> (&[u8], &[u8])
+    ensures { SplitsField text.now result.0.now result.1.now }
+>>>>>>> 2699ac064200c6c4bf13b62f528991eec6109377
 {
-    let at = find_field_stop(text)?;
-    Some((&text[..at], &text[at..]))
+    match find_field_stop(text) {
+        Some(at) => (&text[..at], &text[at..]),
+        None => (text, &[]),
+    }
 }
 
+<<<<<<< HEAD
 // The text from the line feed on that ends its first line, where the line has no quote.
+=======
+/// The text from the line feed on that ends its first line, or nothing where the text ends the line. The line has no quote.
+>>>>>>> 2699ac064200c6c4bf13b62f528991eec6109377
 fn end_line(text: &[u8]) -> Option<&[u8]>
     ensures { IfSome result (λ rest. EndsLine text.now rest.now) }
 {
-    let at = find_line_stop(text)?;
+    let Some(at) = find_line_stop(text) else {
+        return Some(&[]);
+    };
     if text[at] == b'\n' {
         return Some(&text[at..]);
     }
@@ -69,7 +83,7 @@ fn end_line(text: &[u8]) -> Option<&[u8]>
     Some(rest)
 }
 
-/// What the header leaves, from the line feed on that ends it, where it has no quote.
+/// What the header leaves, from where its line ends on, if it has no quote.
 pub(crate) fn behind_header(text: &[u8]) -> Option<&[u8]>
     ensures { IfSome result (λ left. BeginsRows text.now left.now) }
 {
@@ -86,7 +100,7 @@ pub(crate) fn behind_header(text: &[u8]) -> Option<&[u8]>
 pub(crate) struct Line<'a> {
     /// Its payload, or its fault.
     pub(crate) outcome: Result<Vrp, VrpError>,
-    /// The text from the line feed on that ends it.
+    /// The text from where its line ends on.
     pub(crate) left: &'a [u8],
 }
 
@@ -95,9 +109,9 @@ pub(crate) fn read_line(row: u64, text: &[u8]) -> Option<Line<'_>>
     ensures { IfSome result (λ l. BeginsWith text.now row l.outcome l.left.now) }
 {
     let line = behind(text, b'\n')?;
-    let (asn, one) = split_field(line)?;
-    let (prefix, two) = split_field(behind(one, b',')?)?;
-    let (max, more) = split_field(behind(two, b',')?)?;
+    let (asn, one) = split_field(line);
+    let (prefix, two) = split_field(behind(one, b',')?);
+    let (max, more) = split_field(behind(two, b',')?);
     let left = end_line(more)?;
     Some(Line {
         outcome: judge_texts(row, asn, prefix, max),

@@ -7,8 +7,7 @@ use Rattle.roa_table.proofs.gather.gather_lines.Goals as goal
 pub loop-row-init : goal.loop-row-init
 loop-row-init c = record {
   gathered = start_gathering c.args.bytes.now (records_left st.StartRecord c.args.text.now) c.new-vrps.result.items c.requires.is c.new-vrps.ensures.items;
-  behind = c.requires.behind;
-  begins = c.requires.begins;
+  ends = c.requires.ends;
 }
 
 pub loop-row-preserved : goal.loop-row-preserved
