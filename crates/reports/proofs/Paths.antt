@@ -1,10 +1,9 @@
 -- The text of a path that is made cell by cell.
-use Rattle.std.proofs.Common.{◌≡◌, ℕ, ◌<◌, ◌≤◌, true, List, [], ◌∷◌, ◌++◌, length, get_or, take, drop, decimal, ◌-◌, sym, ap, subst, ◌∙◌, append_assoc, append-nil, arith}
+use Rattle.std.proofs.Common.{◌≡◌, ℕ, ◌<◌, ◌≤◌, List, [], ◌∷◌, ◌++◌, length, get_or, take, drop, decimal, ◌-◌, sym, ap, subst, ◌∙◌, append_assoc, append-nil, arith}
 use Rattle.std.proofs.lemmas.List.Concat.{flat_map-cons}
-use Rattle.std.proofs.Math.Seq.{take-append_seam}
 use Rattle.std.proofs.lemmas.List.{take_all}
 use Rattle.std.proofs.lemmas.Result.{on_ok_weaker}
-use Rattle.std.specs.Prelude.{Result, Ok, Err, OnOk, OnErr, is_err}
+use Rattle.std.specs.Prelude.{Result, Ok, Err, OnOk, OnErr}
 use Rattle.reports.specs.Growth.{Grows}
 use Rattle.net_names.specs.Texts.{numbers_text}
 use Rattle.reports.specs.Rows.{more_numbers}
@@ -25,11 +24,6 @@ grown a b c text is g = Grows-trans a b c (record { more = text; is = is }) g
 pub grown_on : {X E : Type 0} (r : Result X E) (a b c text : List ℕ) → b ≡ a ++ text → Grows b c → OnErr r (Grows a c)
 grown_on (Ok x) a b c text is g = tt
 grown_on (Err e) a b c text is g = grown a b c text is g
-
--- where there was an error, what is cut back to its length is as it was
-pub cut_back : {X E : Type 0} (r : Result X E) (a b c text : List ℕ) → is_err r ≡ true → b ≡ a ++ text → OnErr r (Grows b c) → take (length a) c ≡ a
-cut_back (Ok x) a b c text e is g = cc e
-cut_back (Err x) a b c text e is g = let h = grown a b c text is g in ap (take (length a)) h.is ∙ take-append_seam a h.more
 
 -- the first number of a path, and the others each after a space
 pub numbers_text-cons : (n : ℕ) (ns : List ℕ) → numbers_text (n ∷ ns) ≡ decimal n ++ more_numbers ns

@@ -4,6 +4,7 @@ ghost use Rattle.reports.specs.Growth.{Grows};
 ghost use Rattle.stability_laws.specs.Prelude.{entry_text, entry_row};
 
 use crate::rows::{append_numbers, append_otc, begin_entry, begin_row};
+use crate::whole::or_cut;
 use net_names::{Asn, NoMemory, put_bytes};
 use stability_laws::Entry;
 
@@ -45,9 +46,6 @@ pub fn put_entry(out: &mut Vec<u8>, asn: Asn, held: Option<&Entry>) -> Result<()
     ensures err { OnErr result (out.new.items ≡ out.old.items) }
 {
     let kept = out.len();
-    if append_entry(out, asn, held).is_err() {
-        out.truncate(kept);
-        return Err(NoMemory);
-    }
-    Ok(())
+    let appended = append_entry(out, asn, held);
+    or_cut(out, kept, appended)
 }

@@ -12,6 +12,7 @@ mod report;
 mod rows;
 mod trace;
 mod validity;
+mod whole;
 
 pub use entries::put_entry;
 pub use ranks::put_ranks;

@@ -5,6 +5,7 @@ ghost use Rattle.reports.specs.Growth.{Grows};
 ghost use Rattle.stability_laws.specs.Prelude.{row};
 ghost use Rattle.reports.specs.Rows.{table as table_of};
 
+use crate::whole::or_cut;
 use as_graph::Graph;
 use net_names::{Asn, NoMemory, put_asn, put_bytes, put_number};
 use rank_order::Ranks;
@@ -30,10 +31,8 @@ pub fn put_ranks(out: &mut Vec<u8>, graph: &Graph, ranks: &Ranks) -> Result<(), 
     let kept = out.len();
     let ases = graph.ases();
     for (place, asn) in ases.iter().enumerate() {
-        if append_rank(out, *asn, ranks.rank_near(*asn, place)).is_err() {
-            out.truncate(kept);
-            return Err(NoMemory);
-        }
+        let appended = append_rank(out, *asn, ranks.rank_near(*asn, place));
+        or_cut(out, kept, appended)?;
     }
     Ok(())
 }

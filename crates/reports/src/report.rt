@@ -8,6 +8,7 @@ ghost use Rattle.reports.specs.Counts.{count_row, group_text, report_text};
 ghost use Rattle.reports.specs.Groups.{delivered_text, group_count, group_size, printed_text};
 
 use crate::group::Group;
+use crate::whole::or_cut;
 use data_trace::{End, Watch};
 use net_names::{Asn, NoMemory, put_asn, put_bytes, put_number};
 use policy_kinds::Kind;
@@ -181,9 +182,6 @@ pub fn put_report(out: &mut Vec<u8>, plan: &SeedPlan, watch: &Watch) -> Result<(
     ensures err { OnErr result (out.new.items ≡ out.old.items) }
 {
     let kept = out.len();
-    if append_groups(out, plan.announcers(), watch, &GROUPS).is_err() {
-        out.truncate(kept);
-        return Err(NoMemory);
-    }
-    Ok(())
+    let appended = append_groups(out, plan.announcers(), watch, &GROUPS);
+    or_cut(out, kept, appended)
 }

@@ -9,6 +9,7 @@ ghost use Rattle.net_names.specs.Prelude.{class_word, numbers_text};
 ghost use Rattle.stability_laws.specs.Prelude.{entry_text, entry_row};
 ghost use Rattle.reports.specs.Rows.{more_numbers, table as table_of};
 
+use crate::whole::or_cut;
 use as_graph::Graph;
 use net_names::{Asn, Class, NoMemory, put_asn, put_bytes};
 use path_pool::{PathId, PathPool};
@@ -76,11 +77,8 @@ pub fn put_numbers(out: &mut Vec<u8>, numbers: &[Asn]) -> Result<(), NoMemory>
     ensures err { OnErr result (out.new.items ≡ out.old.items) }
 {
     let kept = out.len();
-    if append_numbers(out, numbers).is_err() {
-        out.truncate(kept);
-        return Err(NoMemory);
-    }
-    Ok(())
+    let appended = append_numbers(out, numbers);
+    or_cut(out, kept, appended)
 }
 
 // Appends a space and a number.
@@ -185,10 +183,8 @@ pub fn put_routes(
     let kept = out.len();
     let ases = graph.ases();
     for (place, asn) in ases.iter().enumerate() {
-        if append_row(out, pool, *asn, table.get_near(*asn, place)).is_err() {
-            out.truncate(kept);
-            return Err(NoMemory);
-        }
+        let appended = append_row(out, pool, *asn, table.get_near(*asn, place));
+        or_cut(out, kept, appended)?;
     }
     Ok(())
 }
@@ -205,9 +201,6 @@ pub fn put_route(
     ensures err { OnErr result (out.new.items ≡ out.old.items) }
 {
     let kept = out.len();
-    if append_row(out, pool, asn, table.get(asn)).is_err() {
-        out.truncate(kept);
-        return Err(NoMemory);
-    }
-    Ok(())
+    let appended = append_row(out, pool, asn, table.get(asn));
+    or_cut(out, kept, appended)
 }

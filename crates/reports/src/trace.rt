@@ -6,6 +6,7 @@ ghost use Rattle.stability_laws.specs.Prelude.{row};
 ghost use Rattle.reports.specs.Traces.{end_word};
 
 use crate::rows::put_numbers;
+use crate::whole::or_cut;
 use data_trace::{End, Trace};
 use net_names::{Asn, NoMemory, put_bytes};
 
@@ -39,9 +40,6 @@ pub fn put_trace(out: &mut Vec<u8>, trace: &Trace) -> Result<(), NoMemory>
     ensures err { OnErr result (out.new.items ≡ out.old.items) }
 {
     let kept = out.len();
-    if append_trace(out, trace.walk.as_slice(), trace.end).is_err() {
-        out.truncate(kept);
-        return Err(NoMemory);
-    }
-    Ok(())
+    let appended = append_trace(out, trace.walk.as_slice(), trace.end);
+    or_cut(out, kept, appended)
 }

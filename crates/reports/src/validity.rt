@@ -4,6 +4,7 @@ ghost use Rattle.std.specs.List.{flat_map};
 ghost use Rattle.reports.specs.Growth.{Grows};
 ghost use Rattle.reports.specs.Validity.{state_word, payload_row, validity_text};
 
+use crate::whole::or_cut;
 use net_names::{NoMemory, State, Vrp, put_bytes, put_number, put_prefix};
 use origin_validation::Explained;
 
@@ -69,9 +70,6 @@ pub fn put_validity(out: &mut Vec<u8>, explained: &Explained) -> Result<(), NoMe
     ensures err { OnErr result (out.new.items ≡ out.old.items) }
 {
     let kept = out.len();
-    if append_validity(out, explained.state, explained.covering.as_slice()).is_err() {
-        out.truncate(kept);
-        return Err(NoMemory);
-    }
-    Ok(())
+    let appended = append_validity(out, explained.state, explained.covering.as_slice());
+    or_cut(out, kept, appended)
 }
