@@ -8,6 +8,7 @@ pub mod Fews
 pub mod Queues
 pub mod Turns
 pub mod Work
+pub mod Going
 pub mod PlannedRanks
 pub mod Plans
 pub mod Giving

@@ -2,18 +2,17 @@
 
 ghost use Rattle.std.specs.Prelude.{◌≡◌, ℕ, ◌+◌, ◌≤◌, None, OnOk, OnErr, IfOk};
 ghost use Rattle.net_names.specs.Prelude.{occurs};
-ghost use Rattle.as_graph.specs.Prelude.{relation, has, as_count};
-ghost use Rattle.path_pool.specs.declared.pool.PathPool.{PathPool as APool};
+ghost use Rattle.as_graph.specs.Prelude.{relation, has};
 ghost use Rattle.path_pool.specs.Pool.{limit_of};
-ghost use Rattle.route_choice.specs.Prelude.{setting_at, routing_of, seeds_of, table_routing, change_at};
-ghost use Rattle.dirty_recompute.specs.Exact.{IsExact, AreEnough};
+ghost use Rattle.route_choice.specs.Prelude.{seeds_of, change_at};
+ghost use Rattle.dirty_recompute.specs.Exact.{AreEnough};
+ghost use Rattle.dirty_recompute.specs.Going.{AreExactIn, CanGo, GoesOnIn, HasGone};
 ghost use Rattle.dirty_recompute.specs.Named.{HasAll};
 ghost use Rattle.dirty_recompute.specs.PlannedRanks.{rank_of};
 ghost use Rattle.dirty_recompute.specs.Plans.{CanPlan, IsPlanned};
 ghost use Rattle.dirty_recompute.specs.Queues.{waits, HasRanks};
 ghost use Rattle.dirty_recompute.specs.Resources.{has_change, IsKept, IsUndone, SameTable};
-ghost use Rattle.dirty_recompute.specs.Work.{HasGoneDown, CanGoOn, GoesOn, IsRightBut};
-ghost use Rattle.as_graph.specs.declared.build.TheConstants.{MOST_ASES};
+ghost use Rattle.dirty_recompute.specs.Work.{CanGoOn, IsRightBut};
 
 use crate::laws::laws_hold;
 use crate::named::Named;
@@ -57,18 +56,13 @@ fn go_up<P: RoutePolicy, V: OriginStates, L: Ledger>(
     overlay: &mut Overlay,
     steps: &mut Steps<L>,
 ) -> Result<Queues, NoMemory>
-    requires few { as_count world.now.at.graph.now ≤ MOST_ASES }
-    requires named { HasAll named.old (seeds_of pool.old world.now.at.seeds.now) }
+    requires can { CanGo world.now named.old pool.old overlay.old }
     requires fresh { (b : ℕ) → change_at overlay.old b ≡ None }
     requires right { IsRightBut P.meaning V.state_of world.now.at pool.old touched.now }
-    requires can { (first : APool) × CanGoOn (has world.now.at.graph.now) first pool.old world.now.at.seeds.now
-        world.now.at.table.now overlay.old }
     ensures done { IfOk result (λ q. (n : ℕ) × (steps.new ≡ steps.old + n) ×
-        HasGoneDown (setting_at P.meaning V.state_of world.now.at) (rank_of world.now.ranks) touched.now pool.new
-        world.now.at.seeds.now world.now.at.table.now overlay.new q.whole n 0) }
+        HasGone P.meaning V.state_of world.now touched.now pool.new overlay.new q.whole n) }
     ensures named { OnOk result (HasAll named.new (seeds_of pool.new world.now.at.seeds.now)) }
-    ensures can { OnOk result (GoesOn (has world.now.at.graph.now) pool.old pool.new world.now.at.seeds.now
-        world.now.at.table.now overlay.old overlay.new) }
+    ensures can { OnOk result (GoesOnIn world.now pool.old pool.new overlay.old overlay.new) }
     ensures kept { IsKept pool.old pool.new world.now.at.seeds.now overlay.old overlay.new }
 {
     laws_hold::<P>();
@@ -98,22 +92,15 @@ fn go_down<P: RoutePolicy, V: OriginStates, L: Ledger>(
     queues: &mut Queues,
     steps: &mut Steps<L>,
 ) -> Result<(), NoMemory>
-    requires few { as_count world.now.at.graph.now ≤ MOST_ASES }
-    requires named { HasAll named.old (seeds_of pool.old world.now.at.seeds.now) }
-    requires work { (n : ℕ) × HasGoneDown (setting_at P.meaning V.state_of world.now.at) (rank_of world.now.ranks)
-        touched.now pool.old world.now.at.seeds.now world.now.at.table.now overlay.old queues.old.whole n 0 }
-    requires can { (first : APool) × CanGoOn (has world.now.at.graph.now) first pool.old world.now.at.seeds.now
-        world.now.at.table.now overlay.old }
-    ensures exact { OnOk result (IsExact (setting_at P.meaning V.state_of world.now.at)
-        (seeds_of pool.new world.now.at.seeds.now) (table_routing pool.new world.now.at.table.now)
-        (routing_of pool.new world.now.at.table.now overlay.new) (has_change overlay.new)) }
+    requires can { CanGo world.now named.old pool.old overlay.old }
+    requires work { (n : ℕ) × HasGone P.meaning V.state_of world.now touched.now pool.old overlay.old
+        queues.old.whole n }
+    ensures exact { OnOk result (AreExactIn P.meaning V.state_of world.now pool.new overlay.new) }
     ensures enough { OnOk result ((first n : ℕ) → steps.old ≡ first + n →
-        HasGoneDown (setting_at P.meaning V.state_of world.now.at) (rank_of world.now.ranks) touched.now pool.old
-        world.now.at.seeds.now world.now.at.table.now overlay.old queues.old.whole n 0 →
+        HasGone P.meaning V.state_of world.now touched.now pool.old overlay.old queues.old.whole n →
         AreEnough (relation world.now.at.graph.now) (λ b. occurs b touched.now) (has_change overlay.new) first
         steps.new) }
-    ensures can { OnOk result (GoesOn (has world.now.at.graph.now) pool.old pool.new world.now.at.seeds.now
-        world.now.at.table.now overlay.old overlay.new) }
+    ensures can { OnOk result (GoesOnIn world.now pool.old pool.new overlay.old overlay.new) }
     ensures kept { IsKept pool.old pool.new world.now.at.seeds.now overlay.old overlay.new }
 {
     laws_hold::<P>();
@@ -143,9 +130,7 @@ fn put_changes<P: RoutePolicy, V: OriginStates, L: Ledger>(
     requires right { IsRightBut P.meaning V.state_of world.now.at pool.old touched.now }
     requires can { CanGoOn (has world.now.at.graph.now) pool.old pool.old world.now.at.seeds.now
         world.now.at.table.now overlay.old }
-    ensures exact { OnOk result (IsExact (setting_at P.meaning V.state_of world.now.at)
-        (seeds_of pool.new world.now.at.seeds.now) (table_routing pool.new world.now.at.table.now)
-        (routing_of pool.new world.now.at.table.now overlay.new) (has_change overlay.new)) }
+    ensures exact { OnOk result (AreExactIn P.meaning V.state_of world.now pool.new overlay.new) }
     ensures enough { OnOk result (AreEnough (relation world.now.at.graph.now) (λ b. occurs b touched.now)
         (has_change overlay.new) steps.old steps.new) }
     ensures can { OnOk result (CanGoOn (has world.now.at.graph.now) pool.old pool.new world.now.at.seeds.now

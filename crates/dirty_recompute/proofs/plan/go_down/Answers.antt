@@ -17,20 +17,20 @@ loop-asn-init g c =
     let state = g.V.OriginStates.state_of c.args.world.now.at.states.now (prefix_of c.args.world.now.at.table.now) in
     record {
       way = down_start (has c.args.world.now.at.graph.now) (setting g.P.RoutePolicy.meaning c.args.world.now.at.graph.now c.args.world.now.at.book.now state) (rank_of c.args.world.now.ranks) c.args.touched.now c.args.world.now.at.seeds.now c.args.world.now.at.table.now c.args.pool.now c.args.overlay.now c.args.queues.now.whole c.args.steps.now;
-      named = c.requires.named;
+      named = c.requires.can.named;
     }
 
 pub may_have-may_loop-requires-clause-live : goal.may_have-may_loop-requires-clause-live
-may_have-may_loop-requires-clause-live g c = seeds_kept c.args.pool.now c.loop-asn.pool c.args.world.now.at.seeds.now c.loop-asn.invariant.way.kept.keeps c.requires.can.1.seeds_live
+may_have-may_loop-requires-clause-live g c = seeds_kept c.args.pool.now c.loop-asn.pool c.args.world.now.at.seeds.now c.loop-asn.invariant.way.kept.keeps c.requires.can.can.1.seeds_live
 
 pub turn-requires-clause-can : goal.turn-requires-clause-can
 turn-requires-clause-can g c =
-    can_turn c.args.world.now.at.graph.now c.args.world.now.at.seeds.now c.args.world.now.at.table.now c.args.pool.now c.loop-asn.pool c.args.overlay.now c.loop-asn.overlay c.requires.few c.requires.can c.loop-asn.invariant.way.can
+    can_turn c.args.world.now.at.graph.now c.args.world.now.at.seeds.now c.args.world.now.at.table.now c.args.pool.now c.loop-asn.pool c.args.overlay.now c.loop-asn.overlay c.requires.can.few c.requires.can.can c.loop-asn.invariant.way.can
 
 pub turn-requires-clause-ready : goal.turn-requires-clause-ready
 turn-requires-clause-ready g c =
     let rank = rank_of c.args.world.now.ranks in
-    let (first, could) = c.requires.can in
+    let (first, could) = c.requires.can.can in
     let (n, began) = c.requires.work in
     let work = c.loop-asn.invariant.way.work n began in
     settled g.P.RoutePolicy.meaning g.V.OriginStates.state_of c.laws_hold.ensures c.args.world.now c.args.touched.now c.args.pool.now c.loop-asn.pool c.loop-asn.pool c.args.overlay.now c.loop-asn.overlay c.loop-asn.overlay c.args.steps.now c.loop-asn.steps c.loop-asn.steps c.in-Some.asn
@@ -47,7 +47,7 @@ turn-requires-clause-no_loops g c = λ out.
 pub loop-asn-preserved : goal.loop-asn-preserved
 loop-asn-preserved g c =
     let rank = rank_of c.args.world.now.ranks in
-    let (first, could) = c.requires.can in
+    let (first, could) = c.requires.can.can in
     let (n, began) = c.requires.work in
     let out = c.in-Some.ensures.taken rank (c.loop-asn.invariant.way.work n began).ranks in
     record {

@@ -15,15 +15,15 @@ loop-asn-init g c =
     record {
       way = upward_start g.P.RoutePolicy.meaning g.V.OriginStates.state_of c.laws_hold.ensures c.args.world.now c.args.touched.now c.args.pool.now c.args.overlay.now c.in_ok-up.up c.new-whole.result c.args.steps.now
           c.requires.fresh c.in_ok-up.ensures.touched (λ b. c.new-whole.ensures.none rank (rank b, b)) c.in_ok-up.ensures.ranks (no_ranks rank c.new-whole.result (c.new-whole.ensures.none rank) c.new-whole.ensures.spots) c.requires.right;
-      named = c.requires.named;
+      named = c.requires.can.named;
     }
 
 pub may_have-may_loop-requires-clause-live : goal.may_have-may_loop-requires-clause-live
-may_have-may_loop-requires-clause-live g c = seeds_kept c.args.pool.now c.loop-asn.pool c.args.world.now.at.seeds.now c.loop-asn.invariant.way.kept.keeps c.requires.can.1.seeds_live
+may_have-may_loop-requires-clause-live g c = seeds_kept c.args.pool.now c.loop-asn.pool c.args.world.now.at.seeds.now c.loop-asn.invariant.way.kept.keeps c.requires.can.can.1.seeds_live
 
 pub turn-requires-clause-can : goal.turn-requires-clause-can
 turn-requires-clause-can g c =
-    can_turn c.args.world.now.at.graph.now c.args.world.now.at.seeds.now c.args.world.now.at.table.now c.args.pool.now c.loop-asn.pool c.args.overlay.now c.loop-asn.overlay c.requires.few c.requires.can c.loop-asn.invariant.way.can
+    can_turn c.args.world.now.at.graph.now c.args.world.now.at.seeds.now c.args.world.now.at.table.now c.args.pool.now c.loop-asn.pool c.args.overlay.now c.loop-asn.overlay c.requires.can.few c.requires.can.can c.loop-asn.invariant.way.can
 
 pub turn-requires-clause-ready : goal.turn-requires-clause-ready
 turn-requires-clause-ready g c =
@@ -40,7 +40,7 @@ turn-requires-clause-no_loops g c = λ out.
 pub loop-asn-preserved : goal.loop-asn-preserved
 loop-asn-preserved g c =
     let rank = rank_of c.args.world.now.ranks in
-    let (first, could) = c.requires.can in
+    let (first, could) = c.requires.can.can in
     let out = c.in-Some.ensures.taken rank c.loop-asn.invariant.way.work.ranks in
     record {
       way = upward_next g.P.RoutePolicy.meaning g.V.OriginStates.state_of c.laws_hold.ensures c.args.world.now c.args.touched.now c.args.pool.now c.loop-asn.pool c.turn.new.pool c.args.overlay.now c.loop-asn.overlay c.turn.new.overlay c.args.steps.now c.loop-asn.steps c.turn.new.steps c.in-Some.asn
