@@ -34,24 +34,32 @@ use Rattle.leak_round.proofs.Committing.{change_from, held_with-live}
 use Rattle.leak_round.proofs.Laying.{is_at-true, kept_is, positive, table_uses_in, tables_there}
 use Rattle.leak_round.proofs.Seeding.{held_of-live, seeds_are, seeds_live}
 
-unmapped : {X Y : Type 0} (f : X → Y) (o : Option X) → option_map f o ≡ None → o ≡ None
+-- a table of a round has what is kept in it
+pub kept_here : (pool : PathPool) (rounds : List RoundTables) (round : ℕ) (prefix : PrefixValue) (t : Table) → table_in rounds round prefix ≡ Some t → (a : ℕ) → table_routing pool t a ≡ kept_in pool rounds round prefix a
+kept_here pool rounds round prefix t at a = sym (kept_is pool rounds round prefix a ∙ ap (λ (o : Option Table). option_map (entry_of pool) (option_and_then (λ (x : Table). held_at x a) o)) at)
+
+pub unmapped : {X Y : Type 0} (f : X → Y) (o : Option X) → option_map f o ≡ None → o ≡ None
 unmapped f None e = refl
 unmapped f (Some x) e = cc
 
 module _ (w : PrefixValue → Setting) (g : Topology) (touched : PrefixValue → ℕ → Bool) (plan after : Plan) (xs ys : List Announced) (pool : PathPool) (rounds : List RoundTables) (cs : List Change) (first last : ℕ)
     (can : CanFind w g touched plan after xs ys pool rounds) (held : (k : ℕ) → entry_uses rounds k + changes_uses cs k ≤ holds_of pool k) (so_far : AreFound w g touched plan after pool rounds cs first last) where
-  -- nothing is held before round 1
-  none_first : (prefix : PrefixValue) (a : ℕ) → held_with rounds cs 0 prefix a ≡ None
-  none_first prefix a = by (change_in cs 0 prefix a) refl
+  -- no change is of a round before round 1
+  pub no_change_first : (prefix : PrefixValue) (a : ℕ) → change_in cs 0 prefix a ≡ None
+  no_change_first prefix a = by (change_in cs 0 prefix a) refl
     where
-      by : (o : Option (Option Held)) → change_in cs 0 prefix a ≡ o → held_with rounds cs 0 prefix a ≡ None
-      by None e = ap (λ (o : Option (Option Held)). over o (held_of rounds 0 prefix a)) e
+      by : (o : Option (Option Held)) → change_in cs 0 prefix a ≡ o → o ≡ None
+      by None e = refl
       by (Some c) e =
           let (i, y, at, here, change) = change_from cs 0 prefix a c e in
           let parts = is_at-true 0 prefix y here in
           let f = so_far.changes.fits i y at in
           let some = positive rounds y.round y.prefix f.table f.at in
           absurd (omega (arith, parts.0, some))
+
+  -- nothing is held before round 1
+  none_first : (prefix : PrefixValue) (a : ℕ) → held_with rounds cs 0 prefix a ≡ None
+  none_first prefix a = ap (λ (o : Option (Option Held)). over o (held_of rounds 0 prefix a)) (no_change_first prefix a)
 
   -- the paths of the seeds before the edit are live, and so are those of the seeds after it
   pub live_before : (round : ℕ) (prefix : PrefixValue) (seeds : SeedIds) → AreSeedsWith plan xs rounds [] round prefix seeds → AreSeedsLive pool seeds
@@ -91,31 +99,27 @@ module _ (w : PrefixValue → Setting) (g : Topology) (touched : PrefixValue →
         by None e true h n = ap leaked_by n
         by None e false h n = refl
 
-    module _ (t : Table) (at : table_in rounds round prefix ≡ Some t) where
-      pub kept_here : (a : ℕ) → table_routing pool t a ≡ kept_in pool rounds round prefix a
-      kept_here a = sym (kept_is pool rounds round prefix a ∙ ap (λ (o : Option Table). option_map (entry_of pool) (option_and_then (λ (x : Table). held_at x a) o)) at)
+    module _ (t : Table) (at : table_in rounds round prefix ≡ Some t) (ases : List ℕ) (wrong : AreWrong (touched prefix) pool was seeds ases) where
+      right_at : (b : ℕ) → has g b ≡ true → occurs b ases ≡ false → IsRight (w prefix) (seeds_of pool seeds) (table_routing pool t) b
+      right_at b there out =
+          let old = can.right round prefix b turn.from turn.to turn.known there (wrong.untouched b out) in
+          let seed : seeds_of pool seeds b ≡ seeds_in plan round prefix (kept_in pool rounds (round - 1) prefix) b = wrong.same b out ∙ was_are b in
+          let F : Option Seed → (ℕ → Option Entry) → Type 0 = λ s f. IsRightGiven ((w prefix).policy b) s (λ n. offer (w prefix) f n b) (f b) in
+          coe 1 0 (i. F (seed i) (λ a. kept_here pool rounds round prefix t at a i)) old
 
-      module _ (ases : List ℕ) (wrong : AreWrong (touched prefix) pool was seeds ases) where
-        right_at : (b : ℕ) → has g b ≡ true → occurs b ases ≡ false → IsRight (w prefix) (seeds_of pool seeds) (table_routing pool t) b
-        right_at b there out =
-            let old = can.right round prefix b turn.from turn.to turn.known there (wrong.untouched b out) in
-            let seed : seeds_of pool seeds b ≡ seeds_in plan round prefix (kept_in pool rounds (round - 1) prefix) b = wrong.same b out ∙ was_are b in
-            let F : Option Seed → (ℕ → Option Entry) → Type 0 = λ s f. IsRightGiven ((w prefix).policy b) s (λ n. offer (w prefix) f n b) (f b) in
-            coe 1 0 (i. F (seed i) (λ a. kept_here a i)) old
-
-        -- its changes can be found
-        pub can_table : CanFindInTable (w prefix) g prefix seeds ases pool t
-        can_table =
-            let (r, is, here) = tables_there rounds round prefix t at in
-            record {
-              prefix_is = (can.full round r is).by_prefix prefix t here;
-              entries = λ b not out. unmapped (entry_of pool) (held_at t b) (kept_here b ∙ can.entries round prefix b turn.from turn.to turn.known not (wrong.untouched b out));
-              right = right_at;
-              at_ases = nowhere;
-              seeds_live = live_after round prefix seeds put;
-              entries_live = (can.full round r is).live prefix t here;
-              held = λ k. omega (arith, held k, table_uses_in rounds round prefix t at k);
-            }
+      -- its changes can be found
+      pub can_table : CanFindInTable (w prefix) g prefix seeds ases pool t
+      can_table =
+          let (r, is, here) = tables_there rounds round prefix t at in
+          record {
+            prefix_is = (can.full round r is).by_prefix prefix t here;
+            entries = λ b not out. unmapped (entry_of pool) (held_at t b) (kept_here pool rounds round prefix t at b ∙ can.entries round prefix b turn.from turn.to turn.known not (wrong.untouched b out));
+            right = right_at;
+            at_ases = nowhere;
+            seeds_live = live_after round prefix seeds put;
+            entries_live = (can.full round r is).live prefix t here;
+            held = λ k. omega (arith, held k, table_uses_in rounds round prefix t at k);
+          }
 
 -- so it can with the ASes that were found to be wrong
 pub can_found : (w : PrefixValue → Setting) (g : Topology) (touched : PrefixValue → ℕ → Bool) (plan after : Plan) (xs ys : List Announced) (pool : PathPool) (rounds : List RoundTables) (cs : List Change) (first last : ℕ)

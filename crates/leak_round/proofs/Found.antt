@@ -18,19 +18,22 @@ use Rattle.stability_laws.specs.Stable.{IsStable}
 use Rattle.stability_laws.specs.Plans.{Plan}
 use Rattle.stability_laws.specs.Rounds.{seeds_of as seeds_in}
 use Rattle.route_choice.specs.declared.held.Held.{Held}
+use Rattle.route_choice.specs.declared.overlay.Overlay.{Overlay}
 use Rattle.route_choice.specs.declared.round_tables.RoundTables.{RoundTables}
 use Rattle.route_choice.specs.declared.seeds.SeedIds.{SeedIds}
 use Rattle.route_choice.specs.declared.table.Table.{Table}
 use Rattle.route_choice.specs.Routings.{entry_of, routing_of, seeds_of, table_routing}
 use Rattle.route_choice.specs.Slots.{over}
-use Rattle.route_choice.specs.Tables.{held_at, change_at, overlay_uses, places_of}
+use Rattle.route_choice.specs.Tables.{held_at, change_at, overlay_uses, places_of, HasRoomForChanges}
 use Rattle.route_choice.proofs.Lists.{entries_same}
+use Rattle.dirty_recompute.specs.Exact.{AreEnough}
+use Rattle.dirty_recompute.specs.Resources.{has_change}
 use Rattle.leak_round.specs.declared.announced.Announced.{Announced}
 use Rattle.leak_round.specs.declared.changes.Change.{Change}
 use Rattle.leak_round.specs.Bounds.{IsCountedAt, IsCountedIn}
-use Rattle.leak_round.specs.Differing.{AreWrong, AreWrongIn}
+use Rattle.leak_round.specs.Differing.{AreWrongIn}
 use Rattle.leak_round.specs.Entries.{StandsIn}
-use Rattle.leak_round.specs.Leaked.{AreSeedsWith}
+use Rattle.leak_round.specs.Growth.{KeepsPaths}
 use Rattle.leak_round.specs.Overlays.{is_at, change_in, held_of, held_with, laid_in, changes_uses, FitsIn, IsListed, AreChangesOf}
 use Rattle.leak_round.specs.Found.{CanFind, AreFound, AreRoomed, AreSame, IsAdded, IsDone, IsPaid, IsTableAdded, AreTableChanges, IsTurn, is_changed_in, course_of, is_found}
 use Rattle.leak_round.specs.Tables.{kept_in, entry_uses}
@@ -64,11 +67,23 @@ module _ (cs : List Change) (x : Change) where
     ];
   }
 
+-- the changes of one table, said of its seeds before and after the edit
+pub record IsOneFound (w : Setting) (g : Topology) (touched : ℕ → Bool) (was seeds : ℕ → Option Seed) (pool pool' : PathPool) (t t' : Table) (last next : ℕ) (o : Overlay) : Type 0 where
+  pub stable : IsStable w seeds (routing_of pool' t' o)
+  pub differs : (a : ℕ) → has_change o a ≡ true → routing_of pool' t' o a ≢ table_routing pool t a
+  pub ases : List ℕ
+  pub only : (b : ℕ) → occurs b ases ≡ true → (touched b ≡ true) ⊎ (seeds b ≢ was b)
+  pub enough : AreEnough (relation g) (λ b. occurs b ases) (has_change o) last next
+  pub spare : HasRoomForChanges t' o
+  pub listed : IsListed o
+  pub keeps : KeepsPaths pool pool'
+
 module _ (w : PrefixValue → Setting) (g : Topology) (touched : PrefixValue → ℕ → Bool) (plan after : Plan) (xs ys : List Announced) (pool : PathPool) (rounds : List RoundTables) (cs : List Change) (first last : ℕ)
     (can : CanFind w g touched plan after xs ys pool rounds) (held : (k : ℕ) → entry_uses rounds k + changes_uses cs k ≤ holds_of pool k) (so_far : AreFound w g touched plan after pool rounds cs first last)
-    (x : Change) (turn : IsTurn plan (length rounds) cs x.round x.prefix) (was seeds : SeedIds) (was_put : AreSeedsWith plan xs rounds [] x.round x.prefix was) (put : AreSeedsWith after ys rounds cs x.round x.prefix seeds)
-    (pool' : PathPool) (rounds' : List RoundTables) (ases : List ℕ) (wrong : AreWrong (touched x.prefix) pool was seeds ases) (roomed : AreRoomed rounds rounds' x.round x.prefix) (same : AreSame rounds rounds') (next : ℕ)
-    (found : AreTableChanges (w x.prefix) g seeds ases pool pool' roomed.was roomed.now last next x.overlay) where
+    (x : Change) (turn : IsTurn plan (length rounds) cs x.round x.prefix) (was seeds : ℕ → Option Seed)
+    (was_is : (a : ℕ) → was a ≡ seeds_in plan x.round x.prefix (kept_in pool rounds (x.round - 1) x.prefix) a) (now_is : (a : ℕ) → seeds a ≡ seeds_in after x.round x.prefix (laid_in pool rounds cs (x.round - 1) x.prefix) a)
+    (pool' : PathPool) (rounds' : List RoundTables) (roomed : AreRoomed rounds rounds' x.round x.prefix) (same : AreSame rounds rounds') (next : ℕ)
+    (found : IsOneFound (w x.prefix) g (touched x.prefix) was seeds pool pool' roomed.was roomed.now last next x.overlay) where
   -- no change so far is of this table
   fresh : (i : ℕ) (y : Change) → slice_get cs i ≡ Some y → is_at x.round x.prefix y ≡ false
   fresh i y at = by (is_at x.round x.prefix y) refl
@@ -106,30 +121,28 @@ module _ (w : PrefixValue → Setting) (g : Topology) (touched : PrefixValue →
       ∙ ap (λ (o : Option Table). over (change_at x.overlay a) (option_and_then (λ (t : Table). held_at t a) o)) roomed.now_at)
 
   was_here : (a : ℕ) → table_routing pool roomed.was a ≡ kept_in pool rounds x.round x.prefix a
-  was_here a = kept_here w g touched plan after xs ys pool rounds cs first last can held so_far x.round x.prefix turn was seeds was_put put roomed.was roomed.was_at a
+  was_here a = kept_here pool rounds x.round x.prefix roomed.was roomed.was_at a
 
   before_apart : (x.round - 1 ≢ x.round) ⊎ (x.prefix ≢ x.prefix)
   before_apart = inl (λ e. (let from = turn.from in omega (arith, e, from)))
 
-  now_seed : (a : ℕ) → seeds_of pool seeds a ≡ seeds_in after x.round x.prefix (laid_in pool' rounds' (cs ++ x ∷ []) (x.round - 1) x.prefix) a
+  now_seed : (a : ℕ) → seeds a ≡ seeds_in after x.round x.prefix (laid_in pool' rounds' (cs ++ x ∷ []) (x.round - 1) x.prefix) a
   now_seed a =
       let F : (ℕ → Option Entry) → Option Seed = λ f. seeds_in after x.round x.prefix f a in
-      now_are w g touched plan after xs ys pool rounds cs first last can held so_far x.round x.prefix turn was seeds was_put put a
-      ∙ sym (ap F (λ i b. laid_other (x.round - 1) x.prefix before_apart b i))
+      now_is a ∙ sym (ap F (λ i b. laid_other (x.round - 1) x.prefix before_apart b i))
 
-  was_seed : (a : ℕ) → seeds_of pool was a ≡ seeds_in plan x.round x.prefix (kept_in pool' rounds' (x.round - 1) x.prefix) a
+  was_seed : (a : ℕ) → was a ≡ seeds_in plan x.round x.prefix (kept_in pool' rounds' (x.round - 1) x.prefix) a
   was_seed a =
       let F : (ℕ → Option Entry) → Option Seed = λ f. seeds_in plan x.round x.prefix f a in
-      was_are w g touched plan after xs ys pool rounds cs first last can held so_far x.round x.prefix turn was seeds was_put put a
-      ∙ sym (ap F (λ i b. kept_still (x.round - 1) x.prefix b i))
+      was_is a ∙ sym (ap F (λ i b. kept_still (x.round - 1) x.prefix b i))
 
   Done : ℕ → PrefixValue → Type 0
   Done r p = IsDone (w p) after r p (kept_in pool' rounds' r p) (laid_in pool' rounds' (cs ++ x ∷ []) (r - 1) p) (laid_in pool' rounds' (cs ++ x ∷ []) r p) (is_changed_in (cs ++ x ∷ []) r p)
 
   done_here : IsDone (w x.prefix) after x.round x.prefix (kept_in pool' rounds' x.round x.prefix) (laid_in pool' rounds' (cs ++ x ∷ []) (x.round - 1) x.prefix) (laid_in pool' rounds' (cs ++ x ∷ []) x.round x.prefix) (is_changed_in (cs ++ x ∷ []) x.round x.prefix)
   done_here = record {
-    stable = (let F : (ℕ → Option Seed) → (ℕ → Option Entry) → Type 0 = λ s f. IsStable (w x.prefix) s f in coe 0 1 (i. F (λ a. now_seed a i) (λ a. sym (laid_here a) i)) found.exact.stable);
-    differs = λ a changed e. found.exact.differs a (sym (ap is_some (change_here a)) ∙ changed) (sym (laid_here a) ∙ e ∙ kept_still x.round x.prefix a ∙ sym (was_here a));
+    stable = (let F : (ℕ → Option Seed) → (ℕ → Option Entry) → Type 0 = λ s f. IsStable (w x.prefix) s f in coe 0 1 (i. F (λ a. now_seed a i) (λ a. sym (laid_here a) i)) found.stable);
+    differs = λ a changed e. found.differs a (sym (ap is_some (change_here a)) ∙ changed) (sym (laid_here a) ∙ e ∙ kept_still x.round x.prefix a ∙ sym (was_here a));
   }
 
   -- a table of which changes were found is another one, and so is its table in the round before
@@ -164,7 +177,7 @@ module _ (w : PrefixValue → Setting) (g : Topology) (touched : PrefixValue →
 
   counted_here : (b : ℕ) → occurs b found.enough.ases ≡ true → IsCountedIn (relation g) (course_of plan after touched pool' rounds' (cs ++ x ∷ [])) (triple b)
   counted_here b o = elim (found.enough.counted b o) [
-    | inl listed ↦ elim (wrong.only b listed) [ inl t ↦ inl t | inr d ↦ inr (inl (λ e. d (now_seed b ∙ e ∙ sym (was_seed b)))) ]
+    | inl listed ↦ elim (found.only b listed) [ inl t ↦ inl t | inr d ↦ inr (inl (λ e. d (now_seed b ∙ e ∙ sym (was_seed b)))) ]
     | inr near ↦ (let (c, r, is, changed) = near in inr (inr (c, r, is, ap is_some (change_here c) ∙ changed)))
   ]
 
@@ -225,8 +238,13 @@ pub found_added : (w : PrefixValue → Setting) (g : Topology) (touched : Prefix
     → (pool' : PathPool) (rounds' : List RoundTables) (cs' : List Change) (next : ℕ) → AreSame rounds rounds' → IsTableAdded (w prefix) g seeds ases pool pool' rounds rounds' cs cs' round prefix last next → AreFound w g touched plan after pool' rounds' cs' first next
 found_added w g touched plan after xs ys pool rounds cs first last can held so_far round prefix turn seeds ases wrong pool' rounds' cs' next same made =
     let x : Change = record { round = round; prefix = prefix; overlay = made.overlay } in
+    let found = made.found in
     subst (λ (zs : List Change). AreFound w g touched plan after pool' rounds' zs first next) (sym made.items)
-    (all_found w g touched plan after xs ys pool rounds cs first last can held so_far x turn wrong.was seeds wrong.was_put wrong.put pool' rounds' ases wrong.wrong made.roomed same next made.found)
+    (all_found w g touched plan after xs ys pool rounds cs first last can held so_far x turn (seeds_of pool wrong.was) (seeds_of pool seeds)
+    (was_are w g touched plan after xs ys pool rounds cs first last can held so_far round prefix turn wrong.was seeds wrong.was_put wrong.put)
+    (now_are w g touched plan after xs ys pool rounds cs first last can held so_far round prefix turn wrong.was seeds wrong.was_put wrong.put)
+    pool' rounds' made.roomed same next
+    (record { stable = found.exact.stable; differs = found.exact.differs; ases = ases; only = wrong.wrong.only; enough = found.enough; spare = found.spare; listed = found.listed; keeps = found.keeps }))
 
 -- and what they cost
 pub paid_more : (w : Setting) (g : Topology) (seeds : SeedIds) (ases : List ℕ) (pool pool' : PathPool) (t t' : Table) (first last : ℕ) (cs : List Change) (x : Change) → AreTableChanges w g seeds ases pool pool' t t' first last x.overlay → IsPaid pool pool' cs (cs ++ x ∷ []) 1

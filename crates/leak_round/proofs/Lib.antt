@@ -16,6 +16,7 @@ mod Paying
 mod Committing
 mod Changing
 mod Found
+mod Unchanged
 mod NextTables
 mod Turns
 mod Telling

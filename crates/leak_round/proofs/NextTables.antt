@@ -1,5 +1,5 @@
 -- The table whose turn it is.
-use Rattle.std.proofs.Common.{◌≡◌, ℕ, Some, List, Result, Ok, Err}
+use Rattle.std.proofs.Common.{◌≡◌, ℕ, Some, List, Result, Ok, Err, sym, ap, subst}
 use Rattle.std.specs.Prelude.{IsSome, OnOk}
 use Rattle.net_names.specs.declared.routes.State.{State}
 use Rattle.net_names.specs.Prefixes.{PrefixValue}
@@ -15,12 +15,14 @@ use Rattle.leak_round.specs.declared.finding.Finding.{Finding}
 use Rattle.leak_round.specs.declared.round_prefix.RoundPrefix.{RoundPrefix}
 use Rattle.leak_round.specs.Edited.{announced_after, seeds_after}
 use Rattle.leak_round.specs.Overlays.{table_in}
-use Rattle.leak_round.specs.Findings.{AreSeedsAfter, AreSeedsBefore, AreWrongBy, CanFindNext, IsNextFound}
+use Rattle.leak_round.specs.Findings.{AreSeedsAfter, AreSeedsBefore, AreWrongBy, CanFindNext, IsNextFound, IsNoneAdded, IsUntouched}
 use Rattle.leak_round.specs.Found.{AreSame, CanFindInTable, IsAdded, IsPaid, IsTableAdded}
 use Rattle.leak_round.specs.Touched.{touches}
 use Rattle.leak_round.proofs.Changing.{can_found, live_after, live_before}
-use Rattle.leak_round.proofs.Found.{found_added}
+use Rattle.leak_round.proofs.Found.{added as added_one, found_added}
+use Rattle.leak_round.proofs.Listing.{some_of}
 use Rattle.leak_round.proofs.Roomed.{table_there}
+use Rattle.leak_round.proofs.Unchanged.{none_found, none_paid}
 
 module _ {P V : Type 0} {meaning : P → Policy} {state_of : V → PrefixValue → ℕ → State} {x : Finding P V} {at : RoundPrefix} {pool : PathPool} {rounds : List RoundTables} {cs : List Change} {steps : ℕ}
     (can : CanFindNext meaning state_of x at pool rounds cs steps) where
@@ -36,6 +38,19 @@ module _ {P V : Type 0} {meaning : P → Policy} {state_of : V → PrefixValue �
   next_live_after seeds put =
       live_after (setting_in meaning state_of x.world.now) x.world.now.graph.now (touches x.touched.now) x.plan.now (seeds_after x.edited.now x.plan.now) x.announced.now (announced_after x.edited.now x.announced.now) pool rounds cs can.so_far.0 steps
       can.can can.held can.so_far.1 at.round at.prefix seeds put
+
+  -- where nothing has a bearing on it it has no change, and those before it stay found
+  pub next_none : IsUntouched x at cs → (cs' : List Change) {T E : Type 0} (r : Result T E) → OnOk r (IsNoneAdded cs cs' at.round at.prefix) → OnOk r (IsNextFound meaning state_of x at pool pool rounds rounds cs cs' steps steps)
+  next_none unchanged cs' (Ok done) added =
+      let (t, there) = some_of (table_in rounds at.round at.prefix) next_there in
+      record {
+        found = λ first so_far.
+            none_found (setting_in meaning state_of x.world.now) x.world.now.graph.now (touches x.touched.now) x.plan.now (seeds_after x.edited.now x.plan.now) x.announced.now (announced_after x.edited.now x.announced.now) pool rounds cs first steps
+            can.can can.held so_far at.round at.prefix can.turn (ap (λ e. seeds_after e x.plan.now) unchanged.unedited) unchanged.untouched unchanged.before t there cs' added;
+        added = subst (λ (zs : List Change). IsAdded cs zs at.round at.prefix) (sym added.items) (added_one cs (record { round = at.round; prefix = at.prefix; overlay = added.overlay }));
+        paid = none_paid pool cs cs' at.round at.prefix added;
+      }
+  next_none unchanged cs' (Err e) added = added
 
   module _ (seeds : SeedIds) (ases : List ℕ) (wrong : AreWrongBy x at rounds cs pool seeds ases) where
     -- it can be found with these seeds and ASes

@@ -1,5 +1,5 @@
 -- What the changes of tables need to be found, and what is found so far, said of what they are found by.
-use Rattle.std.specs.Prelude.{◌≡◌, ℕ, ◌+◌, ◌-◌, ◌*◌, ◌≤◌, Some, List, [], length, slice_get}
+use Rattle.std.specs.Prelude.{◌≡◌, ◌⊎◌, ℕ, ◌+◌, ◌-◌, ◌*◌, ◌≤◌, true, false, None, Some, List, [], ◌∷◌, ◌++◌, length, slice_get}
 use Rattle.net_names.specs.declared.routes.State.{State}
 use Rattle.net_names.specs.Prefixes.{PrefixValue}
 use Rattle.path_pool.specs.declared.pool.PathPool.{PathPool}
@@ -12,6 +12,7 @@ use Rattle.route_choice.specs.declared.overlay.Overlay.{Overlay}
 use Rattle.route_choice.specs.declared.round_tables.RoundTables.{RoundTables}
 use Rattle.route_choice.specs.declared.seeds.SeedIds.{SeedIds}
 use Rattle.route_choice.specs.declared.table.Table.{Table}
+use Rattle.route_choice.specs.Tables.{change_at, overlay_uses, places_of}
 use Rattle.dirty_recompute.specs.declared.prefix_edit.PrefixEdit.{PrefixEdit}
 use Rattle.leak_round.specs.declared.changes.Change.{Change}
 use Rattle.leak_round.specs.declared.finding.Finding.{Finding}
@@ -21,7 +22,7 @@ use Rattle.leak_round.specs.Differing.{AreWrongIn}
 use Rattle.leak_round.specs.Edited.{announced_after, seeds_after}
 use Rattle.leak_round.specs.Growth.{HasRoomFor}
 use Rattle.leak_round.specs.Leaked.{AreSeedsWith}
-use Rattle.leak_round.specs.Overlays.{changes_uses}
+use Rattle.leak_round.specs.Overlays.{changes_uses, is_at, IsListed}
 use Rattle.stability_laws.specs.Plans.{prefixes_of}
 use Rattle.stability_laws.specs.World.{setting_in}
 use Rattle.leak_round.specs.Found.{AreFound, AreFoundUpTo, CanFind, CanFindInTable, IsAdded, IsPaid, IsTableAdded, AreTableChanges, IsTurn}
@@ -110,3 +111,26 @@ pub record AreAllFound {P V : Type 0} (meaning : P → Policy) (state_of : V →
   pub found : AreFoundBy meaning state_of x pool' rounds' ys first last
   pub whole : AreFoundUpTo x.plan.now ys (length rounds)
   pub paid : IsPaid pool pool' [] ys (length rounds * length (prefixes_of x.plan.now))
+
+-- a change of the list is of the table of the prefix in the round, and it is none
+pub record IsNoneIn (xs : List Change) (round : ℕ) (prefix : PrefixValue) : Type 0 where
+  pub place : ℕ
+  pub change : Change
+  pub at : slice_get xs place ≡ Some change
+  pub of_table : is_at round prefix change ≡ true
+  pub none : (a : ℕ) → change_at change.overlay a ≡ None
+
+-- no announcement is edited, nobody is touched for the prefix, and the table of the prefix in the round before, if there is one, has no change
+pub record IsUntouched {P V : Type 0} (x : Finding P V) (at : RoundPrefix) (xs : List Change) : Type 0 where
+  pub unedited : x.edited.now ≡ None
+  pub untouched : (a : ℕ) → touches x.touched.now at.prefix a ≡ false
+  pub before : (at.round ≡ 1) ⊎ IsNoneIn xs (at.round - 1) at.prefix
+
+-- behind the others stands that the table of the prefix in the round has no change
+pub record IsNoneAdded (xs ys : List Change) (round : ℕ) (prefix : PrefixValue) : Type 0 where
+  pub overlay : Overlay
+  pub items : ys ≡ xs ++ record { round = round; prefix = prefix; overlay = overlay } ∷ []
+  pub none : (a : ℕ) → change_at overlay a ≡ None
+  pub places : places_of overlay ≡ []
+  pub uses : (k : ℕ) → overlay_uses overlay k ≡ 0
+  pub listed : IsListed overlay

@@ -1,24 +1,26 @@
 //! The changes of the tables of a round after an edit, table by table.
 
-ghost use Rattle.std.specs.Prelude.{◌≡◌, ℕ, ◌<◌, Some, IsSome, [], ◌∷◌, ◌++◌, length, OnOk};
+ghost use Rattle.std.specs.Prelude.{◌≡◌, ℕ, ◌<◌, Some, IsSome, [], ◌∷◌, ◌++◌, length, OnErr, OnOk};
 ghost use Rattle.std.specs.Vec.{vec_capacity};
 ghost use Rattle.stability_laws.specs.Prelude.{prefixes_of};
 ghost use Rattle.route_choice.specs.declared.table.Table.{Table as ATable};
 ghost use Rattle.leak_round.specs.Growth.{HasRoomFor};
 ghost use Rattle.leak_round.specs.Overlays.{table_in};
 ghost use Rattle.leak_round.specs.Found.{AreFoundUpTo, AreSame, IsAdded, IsCutOff, IsPaid};
-ghost use Rattle.leak_round.specs.Findings.{AreFoundBy, AreRanked, CanFindInTableBy, CanFindNext, CanFindRound, IsNextFound, IsTableAddedBy};
+ghost use Rattle.leak_round.specs.Findings.{AreFoundBy, AreRanked, CanFindInTableBy, CanFindNext, CanFindRound, IsNextFound, IsNoneAdded, IsTableAddedBy};
 
 use crate::changes::Change;
 use crate::finding::Finding;
 use crate::round_prefix::RoundPrefix;
 use crate::table_changes::changes_in_round;
 use crate::table_seeds::seeds_and_wrong;
+use crate::untouched::is_untouched;
 use dirty_recompute::PrefixEdit;
 use net_names::{Asn, NoMemory};
 use path_pool::PathPool;
 use policy_laws::{OriginStates, RoutePolicy};
-use route_choice::{RoundTables, Steps};
+use route_choice::{Overlay, RoundTables, Steps};
+use std::alloc::Global;
 use std::sync::ledger::Ledger;
 
 // Makes room for one change more.
@@ -36,6 +38,26 @@ fn add_change(changes: &mut Vec<Change>, change: Change)
     ensures { changes.new.items ≡ changes.old.items ++ change ∷ [] }
 {
     let _ = changes.push(change);
+}
+
+// Adds that the table of a prefix in a round has no change.
+fn add_none(alloc: Global, at: &RoundPrefix, changes: &mut Vec<Change>) -> Result<(), NoMemory>
+    ensures added { OnOk result (IsNoneAdded changes.old.items changes.new.items at.now.round at.now.prefix) }
+    ensures err { OnErr result (changes.new.items ≡ changes.old.items) }
+{
+    make_place(changes)?;
+    let overlay = Overlay::new(alloc);
+    // `len` is called for its clauses that the ASes with a change are listed, each once.
+    let _none = overlay.len();
+    add_change(
+        changes,
+        Change {
+            round: at.round,
+            prefix: at.prefix,
+            overlay,
+        },
+    );
+    Ok(())
 }
 
 // Finds the changes of the table of a prefix in a round, for these seeds, where these ASes may hold
@@ -74,7 +96,8 @@ fn find_with_seeds<P: RoutePolicy, V: OriginStates, L: Ledger>(
     Ok(())
 }
 
-// Finds the changes of the table of a prefix in a round. The list of ASes is written over.
+// Finds the changes of the table of a prefix in a round. Where the edit has no bearing on the table it has none, and no
+// AS chooses. The list of ASes is written over.
 fn find_change<P: RoutePolicy, V: OriginStates, L: Ledger>(
     finding: &Finding<'_, P, V>,
     at: &RoundPrefix,
@@ -91,6 +114,9 @@ fn find_change<P: RoutePolicy, V: OriginStates, L: Ledger>(
     ensures cut { IsCutOff pool.old pool.new changes.old.items changes.new.items }
     ensures same { AreSame tables.old.items tables.new.items }
 {
+    if is_untouched(finding, at, changes.as_slice()) {
+        return add_none(finding.alloc, at, changes);
+    }
     let seeds = seeds_and_wrong(
         finding,
         at,

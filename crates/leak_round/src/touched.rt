@@ -2,7 +2,7 @@
 
 ghost use Rattle.std.specs.Prelude.{◌≡◌, ℕ, false, true, OnOk, OnErr};
 ghost use Rattle.net_names.specs.Prelude.{PrefixValue};
-ghost use Rattle.leak_round.specs.Touched.{touches, ases_in};
+ghost use Rattle.leak_round.specs.Touched.{ases_in, is_touched, touches};
 
 use net_names::{Asn, NoMemory, Prefix};
 use std::alloc::Global;
@@ -33,6 +33,13 @@ impl Touched {
     {
         self.pairs.push((prefix, asn))?;
         Ok(())
+    }
+
+    // Whether some AS is touched for a prefix.
+    pub(crate) fn has_any(&self, prefix: Prefix) -> bool
+        ensures { result ≡ is_touched self.now prefix }
+    {
+        self.pairs.iter().any(|pair| pair.0 == prefix)
     }
 
     // Puts the touched ASes of a prefix, perhaps with repeats, in place of those of a list.

@@ -1,10 +1,11 @@
 use Rattle.std.proofs.Common.{List, sym, subst}
 use Rattle.route_choice.specs.declared.round_tables.RoundTables.{RoundTables}
-use Rattle.leak_round.specs.Findings.{AreSeedsAfter, AreSeedsBefore, AreWrongBy}
-use Rattle.leak_round.proofs.NextTables.{next_can, next_found, next_live_after, next_live_before, next_there}
+use Rattle.leak_round.specs.Findings.{AreSeedsAfter, AreSeedsBefore, AreWrongBy, IsUntouched}
+use Rattle.leak_round.proofs.NextTables.{next_can, next_found, next_live_after, next_live_before, next_none, next_there}
+use Rattle.leak_round.proofs.Unchanged.{none_cut}
 use Rattle.leak_round.proofs.round_changes.find_change.Given as given
 use Rattle.leak_round.proofs.round_changes.find_change.Goals as goal
-use Rattle.leak_round.proofs.round_changes.find_change.Goals.{After-as_slice-3}
+use Rattle.leak_round.proofs.round_changes.find_change.Goals.{After-as_slice-4}
 
 pub seeds_and_wrong-requires-clause-from : goal.seeds_and_wrong-requires-clause-from
 seeds_and_wrong-requires-clause-from g c = c.requires.turn.from
@@ -14,11 +15,11 @@ seeds_and_wrong-requires-clause-place g c = c.requires.place
 
 pub seeds_and_wrong-requires-clause-before : goal.seeds_and_wrong-requires-clause-before
 seeds_and_wrong-requires-clause-before g c = λ seeds put.
-    next_live_before c.requires seeds (subst (λ (ts : List RoundTables). AreSeedsBefore c.args.finding.now c.args.at.now ts seeds) c.as_slice.ensures.value put)
+    next_live_before c.requires seeds (subst (λ (ts : List RoundTables). AreSeedsBefore c.args.finding.now c.args.at.now ts seeds) c.as_slice-2.ensures.value put)
 
 pub seeds_and_wrong-requires-clause-after : goal.seeds_and_wrong-requires-clause-after
 seeds_and_wrong-requires-clause-after g c = λ seeds put.
-    next_live_after c.requires seeds (coe 0 1 (i. AreSeedsAfter c.args.finding.now c.args.at.now (c.as_slice.ensures.value i) (c.as_slice-2.ensures.value i) seeds) put)
+    next_live_after c.requires seeds (coe 0 1 (i. AreSeedsAfter c.args.finding.now c.args.at.now (c.as_slice-2.ensures.value i) (c.as_slice-3.ensures.value i) seeds) put)
 
 pub find_with_seeds-requires-clause-ranks : goal.find_with_seeds-requires-clause-ranks
 find_with_seeds-requires-clause-ranks g c = c.requires.ranks
@@ -27,11 +28,11 @@ pub find_with_seeds-requires-clause-there : goal.find_with_seeds-requires-clause
 find_with_seeds-requires-clause-there g c = next_there c.requires
 
 -- the list has the ASes that may hold something wrong
-wrong : (g : given.Over) (c : After-as_slice-3 g) → AreWrongBy c.args.finding.now c.args.at.now c.args.tables.now.items c.args.changes.now.items c.args.pool.now c.ids.result.now c.as_slice-3.result.now
-wrong g c = coe 0 1 (i. AreWrongBy c.args.finding.now c.args.at.now (c.as_slice.ensures.value i) (c.as_slice-2.ensures.value i) c.args.pool.now (sym c.ids.ensures i) (sym c.as_slice-3.ensures.value i)) c.in_ok-seeds.ensures
+wrong : (g : given.Over) (c : After-as_slice-4 g) → AreWrongBy c.args.finding.now c.args.at.now c.args.tables.now.items c.args.changes.now.items c.args.pool.now c.ids.result.now c.as_slice-4.result.now
+wrong g c = coe 0 1 (i. AreWrongBy c.args.finding.now c.args.at.now (c.as_slice-2.ensures.value i) (c.as_slice-3.ensures.value i) c.args.pool.now (sym c.ids.ensures i) (sym c.as_slice-4.ensures.value i)) c.in_ok-seeds.ensures
 
 pub find_with_seeds-requires-clause-can : goal.find_with_seeds-requires-clause-can
-find_with_seeds-requires-clause-can g c = next_can c.requires c.ids.result.now c.as_slice-3.result.now (wrong g (goal.at.find_with_seeds-requires-clause-can g c).After-as_slice-3)
+find_with_seeds-requires-clause-can g c = next_can c.requires c.ids.result.now c.as_slice-4.result.now (wrong g (goal.at.find_with_seeds-requires-clause-can g c).After-as_slice-4)
 
 pub find_with_seeds-requires-clause-room : goal.find_with_seeds-requires-clause-room
 find_with_seeds-requires-clause-room g c = c.requires.room
@@ -40,4 +41,13 @@ pub returns-clause-found : goal.returns-clause-found
 returns-clause-found g c =
     let now = c.find_with_seeds.ensures in
     let new = c.find_with_seeds.new in
-    next_found c.requires c.ids.result.now c.as_slice-3.result.now (wrong g (goal.at.returns-clause-found g c).After-as_slice-3) new.pool new.tables.items new.changes.items new.steps c.find_with_seeds.result now.same now.added now.more now.paid
+    next_found c.requires c.ids.result.now c.as_slice-4.result.now (wrong g (goal.at.returns-clause-found g c).After-as_slice-4) new.pool new.tables.items new.changes.items new.steps c.find_with_seeds.result now.same now.added now.more now.paid
+
+pub returns-then-is_untouched-clause-found : goal.returns-then-is_untouched-clause-found
+returns-then-is_untouched-clause-found g c =
+    let cs' = c.add_none.new.changes.items in
+    next_none c.requires (subst (IsUntouched c.args.finding.now c.args.at.now) c.as_slice.ensures.value (c.is_untouched.ensures c.if-is_untouched.true)) cs' c.add_none.result c.add_none.ensures.added
+
+pub returns-then-is_untouched-clause-cut : goal.returns-then-is_untouched-clause-cut
+returns-then-is_untouched-clause-cut g c =
+    none_cut c.args.pool.now c.args.changes.now.items c.add_none.new.changes.items c.args.at.now.round c.args.at.now.prefix c.add_none.result c.add_none.ensures.added c.add_none.ensures.err
