@@ -48,8 +48,8 @@ abbrev pub IsOf : Option State → State → Type 0
 IsOf None t = ⊤
 IsOf (Some s) t = t ≡ s
 
--- where all states are this one, or are any if none is given, the policy does what the stance says
+-- where all states are this one, or are any if none is given, the policy takes providers' offers plainly, takes no offer, or does neither
 abbrev pub IsStance : Policy → Option State → Stance → Type 0
 IsStance p all stance.Plain = TakesPlainly p (IsOf all)
 IsStance p all stance.Nothing = TakesNone p (IsOf all)
-IsStance p all stance.Other = ⊤
+IsStance p all stance.Other = (¬ TakesPlainly p (IsOf all)) × (¬ TakesNone p (IsOf all))

@@ -27,7 +27,7 @@ pub enum Stance {
     Plain,
     /// It takes none of them.
     Nothing,
-    /// Neither of these is known.
+    /// It does neither.
     Other,
 }
 
@@ -63,9 +63,9 @@ pub trait RoutePolicy {
     fn stance(&self, all: Option<State>) -> Stance
         ensures { IsStance (meaning self.now) all result };
 
-    /// Whether the policy is known to hand every route to customers, and to set no mark.
+    /// Whether the policy hands every route to customers, and sets no mark.
     fn sends_plainly(&self) -> bool
-        ensures { IsTrue result → SendsPlainly (meaning self.now) };
+        ensures { IsTrue result ↔ SendsPlainly (meaning self.now) };
 
     /// Whether this is the plain policy of Gao and Rexford (2001).
     fn is_plain(&self) -> bool

@@ -1,17 +1,20 @@
 -- The narrow policy meets the laws of every policy; the laws of the implementation cite these lemmas.
-use Rattle.std.specs.Prelude.{◌≡◌, ◌≢◌, ◌↔◌, true, false, IsTrue, None, refl}
+use Rattle.std.specs.Prelude.{◌≡◌, ◌≢◌, ◌↔◌, true, false, IsTrue, Option, None, Some, ℕ, refl}
 use Rattle.std.proofs.Common.{sym}
 use Rattle.std.specs.declared.cmp.Ordering.{Ordering}
 use Rattle.std.specs.declared.cmp.Ordering.TheVariants.{Equal}
 use Rattle.std.specs.Ordering.{nat_cmp, ordering_then, is_lt}
 use Rattle.std.proofs.lemmas.Cmp.{ranked, nat_cmp_total, on_total, then_total, back_total}
+use Rattle.net_names.specs.declared.routes.Class.{Class}
 use Rattle.net_names.specs.declared.routes.Class.TheVariants as class
 use Rattle.net_names.specs.declared.routes.Rel.{Rel}
 use Rattle.net_names.specs.declared.routes.Rel.TheVariants.{Customer, Peer, Provider}
+use Rattle.net_names.specs.declared.routes.State.{State}
 use Rattle.net_names.specs.declared.routes.State.TheVariants.{NotFound}
 use Rattle.policy_laws.specs.declared.policy.View.{View}
 use Rattle.policy_laws.specs.Policy.{RanksOffers, PrefersCustomers, ExportsDownOnly, IgnoresState}
-use Rattle.policy_laws.specs.Plain.{IsPlain}
+use Rattle.policy_laws.specs.declared.policy.Stance.TheVariants.{Other}
+use Rattle.policy_laws.specs.Plain.{IsPlain, IsStance, SendsPlainly}
 use Rattle.policy_laws.specs.Ranking.{ranks_by, last_tied}
 use Rattle.worked_cases.specs.Narrows.{class_place, narrow_cmp, narrow_policy}
 
@@ -47,3 +50,22 @@ narrow_ignores_state = record { accepts = λ unread x s. refl; before = λ unrea
 -- the narrow policy refuses a path of four numbers, so it is not the plain one
 pub narrow_is_not_plain : IsTrue false ↔ IsPlain narrow_policy
 narrow_is_not_plain = ((λ e. (let f : false ≡ true = e in cc)), (λ p. let e : false ≡ true = p.accepts (record { rel = Customer; neighbour = 0; length = 4; state = NotFound; otc = None }) in cc))
+
+-- a provider's offer of a path of this length
+abbrev offer_of : ℕ → State → View
+offer_of n s = record { rel = Provider; neighbour = 0; length = n; state = s; otc = None }
+
+-- of each state the narrow policy refuses a path of four numbers and takes one of one number
+pub narrow_stance : (all : Option State) → IsStance narrow_policy all Other
+narrow_stance None = ((λ t. (let e : false ≡ true = t.accepts (offer_of 4 NotFound) refl tt in cc)), (λ n. (let e : true ≡ false = n (offer_of 1 NotFound) tt in cc)))
+narrow_stance (Some s) = ((λ t. (let e : false ≡ true = t.accepts (offer_of 4 s) refl refl in cc)), (λ n. (let e : true ≡ false = n (offer_of 1 s) refl in cc)))
+
+to_customers : (held : Class) → narrow_policy.exports held None Customer ≡ true
+to_customers class.Origin = refl
+to_customers class.Customer = refl
+to_customers class.Peer = refl
+to_customers class.Provider = refl
+
+-- the narrow policy hands every route to customers, and sets no mark
+pub narrow_sends : IsTrue true ↔ SendsPlainly narrow_policy
+narrow_sends = ((λ e. record { to_customers = λ held otc. to_customers held; unmarked = refl }), (λ p. refl))

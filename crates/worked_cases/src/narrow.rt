@@ -54,12 +54,14 @@ impl RoutePolicy for Narrow {
         false
     }
 
+    #[tactic(auto, using(crate::specs::NarrowLaws::narrow_stance))]
     fn stance(&self, _all: Option<State>) -> Stance {
         Stance::Other
     }
 
+    #[tactic(auto, using(crate::specs::NarrowLaws::narrow_sends))]
     fn sends_plainly(&self) -> bool {
-        false
+        true
     }
 
     #[tactic(auto, using(crate::specs::NarrowLaws::narrow_is_not_plain))]
