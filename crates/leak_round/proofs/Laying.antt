@@ -19,23 +19,12 @@ use Rattle.route_choice.specs.RoundTables.{table_at, tables_uses, uses_at, round
 use Rattle.route_choice.specs.Slots.{over}
 use Rattle.route_choice.specs.Tables.{held_at, change_at, overlay_uses, table_uses}
 use Rattle.route_choice.proofs.RoundLemmas.{same_prefixes, uses_at-le}
+use Rattle.dirty_recompute.proofs.CrowdLemmas.{set_get, set_keeps}
 use Rattle.leak_round.specs.declared.changes.Change.{Change}
 use Rattle.leak_round.specs.Tables.{tables_in, kept_in, entry_uses}
 use Rattle.leak_round.specs.Overlays.{table_in, held_of, is_at, change_in, held_with, FitsIn, CanPut, IsPut, AreChangesOf, IsCommitted}
 use Rattle.leak_round.proofs.Listing.{got_first, got_last}
 use Rattle.leak_round.proofs.Sums.{sum_by-one-le}
-
-pub got_set : {X : Type 0} (xs : List X) (i : ℕ) (x : X) → i < length xs → slice_get (set xs i x) i ≡ Some x
-got_set [] i x less = absurd (omega arith)
-got_set (y ∷ xs) zero x less = refl
-got_set (y ∷ xs) (suc i) x less = got_set xs i x (omega arith)
-
-pub got_other : {X : Type 0} (xs : List X) (i j : ℕ) (x : X) → j ≢ i → slice_get (set xs i x) j ≡ slice_get xs j
-got_other [] i j x ne = refl
-got_other (y ∷ xs) zero zero x ne = absurd (ne refl)
-got_other (y ∷ xs) zero (suc j) x ne = refl
-got_other (y ∷ xs) (suc i) zero x ne = refl
-got_other (y ∷ xs) (suc i) (suc j) x ne = got_other xs i j x (λ e. ne (omega (arith, e)))
 
 -- the tables of a round that has one of the prefix
 module _ (rounds : List RoundTables) (round : ℕ) (prefix : PrefixValue) (t : Table) (at : table_in rounds round prefix ≡ Some t) where
@@ -115,7 +104,7 @@ module _ (old : List RoundTables) (x : Change) (fits : FitsIn old x) (before : R
         now = p.now;
         count = length-set old (x.round - 1) after;
         before_at = before_is;
-        after_at = place_round (set old (x.round - 1) after) x.round place.0 ∙ got_set old (x.round - 1) after (slice_get_within old (x.round - 1) before place.1);
+        after_at = place_round (set old (x.round - 1) after) x.round place.0 ∙ set_get old (x.round - 1) before after place.1;
         others = other;
         was_at = p.was_at;
         puts = p.puts;
@@ -127,7 +116,7 @@ module _ (old : List RoundTables) (x : Change) (fits : FitsIn old x) (before : R
     where
       other : (round : ℕ) → round ≢ x.round → tables_in (set old (x.round - 1) after) round ≡ tables_in old round
       other zero ne = refl
-      other (suc n) ne = got_other old (x.round - 1) n after (λ e. (let some = (round_place old x.round before before_is).0 in ne (omega (arith, e, some))))
+      other (suc n) ne = set_keeps old (x.round - 1) n after (λ e. (let some = (round_place old x.round before before_is).0 in ne (omega (arith, e, some))))
 
   pub holds_put : (pool pool' : PathPool) (after : RoundTables) → IsPut before after x.prefix x.overlay pool pool' → (k : ℕ) → entry_uses (set old (x.round - 1) after) k + holds_of pool k ≡ entry_uses old k + overlay_uses x.overlay k + holds_of pool' k
   holds_put pool pool' after p k = omega (arith, uses_put pool pool' after p k, p.holds k)

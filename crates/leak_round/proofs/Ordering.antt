@@ -71,11 +71,12 @@ told_at d P rounds count each (suc before) some within = by (slice_get d.changed
     by None at = absurd (let past = past_end d.changed.items before at in omega (arith, past, count, within))
     by (Some v) at = each before v at
 
-abbrev AreApartTables : List Change → Type 0
+-- no two changes are of the same table
+abbrev pub AreApartTables : List Change → Type 0
 AreApartTables xs = (i j : ℕ) (x y : Change) → i < j → slice_get xs i ≡ Some x → slice_get xs j ≡ Some y → (x.round ≢ y.round) ⊎ (x.prefix ≢ y.prefix)
 
 -- each change is the one of its table
-change_there : (xs : List Change) → AreApartTables xs → (i : ℕ) (x : Change) → slice_get xs i ≡ Some x → (a : ℕ) → change_in xs x.round x.prefix a ≡ change_at x.overlay a
+pub change_there : (xs : List Change) → AreApartTables xs → (i : ℕ) (x : Change) → slice_get xs i ≡ Some x → (a : ℕ) → change_in xs x.round x.prefix a ≡ change_at x.overlay a
 change_there [] apart i x at a = cc
 change_there (y ∷ ys) apart zero x at a =
     let same : y ≡ x = cc in

@@ -1,7 +1,8 @@
 -- The seeds that announcements make.
-use Rattle.std.proofs.Common.{◌≡◌, ◌≢◌, ◌⊎◌, inl, inr, ℕ, zero, suc, ◌<◌, Bool, true, false, cond, Some, None, option_map, List, [], ◌∷◌, ◌++◌, length, set, refl, sym, ap, subst, ◌∙◌}
+use Rattle.std.proofs.Common.{◌≡◌, ◌≢◌, ◌⊎◌, inl, inr, ℕ, zero, suc, ◌<◌, Bool, true, false, cond, Some, None, option_map, List, [], ◌∷◌, ◌++◌, length, get_or, set, refl, sym, ap, subst, ◌∙◌}
 use Rattle.std.specs.Prelude.{slice_get, IsTrue}
 use Rattle.std.proofs.lemmas.Bool.{cases_eq, cases_order}
+use Rattle.std.proofs.lemmas.Option.{slice_get-get_or}
 use Rattle.net_names.specs.Numbers.{occurs}
 use Rattle.net_names.specs.Prefixes.{PrefixValue, prefix_cmp}
 use Rattle.path_pool.specs.declared.pool.PathPool.{PathPool}
@@ -10,6 +11,7 @@ use Rattle.stability_laws.proofs.KeyLists.{apart_later, keys_listed}
 use Rattle.net_names.specs.Orders.{prefix_total, exact_prefix}
 use Rattle.route_choice.specs.declared.round_tables.RoundTables.{RoundTables}
 use Rattle.route_choice.specs.declared.seeds.SeedIds.{SeedIds}
+use Rattle.dirty_recompute.proofs.CrowdLemmas.{set_get, set_keeps}
 use Rattle.leak_round.specs.declared.announced.Announced.{Announced}
 use Rattle.leak_round.specs.declared.changes.Change.{Change}
 use Rattle.leak_round.specs.declared.touched.Touched.{Touched}
@@ -21,7 +23,6 @@ use Rattle.leak_round.specs.OwnSeeds.{AreOwn, AreOwnSeeds, AreOthersKept}
 use Rattle.leak_round.specs.Touched.{ases_in, touches}
 use Rattle.leak_round.proofs.Announcing.{is_of-itself, own_path-push}
 use Rattle.leak_round.proofs.Editing.{others_own}
-use Rattle.leak_round.proofs.Laying.{got_other, got_set}
 
 -- what stands in a list with one more at the end, and where
 got_at : {X : Type 0} (xs : List X) (x : X) (i : ℕ) (y : X) → slice_get (xs ++ x ∷ []) i ≡ Some y → (slice_get xs i ≡ Some y) ⊎ ((i ≡ length xs) × (x ≡ y))
@@ -59,12 +60,12 @@ own_put plan xs ys own i prefix seeds was others are at less j p s here got = el
   | inl e ↦
       let both : Some prefix ≡ Some p = sym at ∙ ap (slice_get (prefixes_of plan)) (sym e) ∙ here in
       let one : prefix ≡ p = cc in
-      let put : Some seeds ≡ Some s = sym (got_set own i seeds less) ∙ ap (slice_get (set own i seeds)) (sym e) ∙ got in
+      let put : Some seeds ≡ Some s = sym (set_get own i (get_or own i seeds) seeds (slice_get-get_or own i seeds less)) ∙ ap (slice_get (set own i seeds)) (sym e) ∙ got in
       let same : seeds ≡ s = cc in
       coe 0 1 (k. AreOwn ys (one k) (same k)) are
   | inr ne ↦
       let other : p ≢ prefix = place_apart plan j i p prefix (λ e. ne (sym e)) here at in
-      λ a. was j p s here (sym (got_other own i j seeds ne) ∙ got) a ∙ ap (option_map own_seed) (sym (others p (λ e. (let same : prefix ≡ p = cc in other (sym same))) a))
+      λ a. was j p s here (sym (set_keeps own i j seeds ne) ∙ got) a ∙ ap (option_map own_seed) (sym (others p (λ e. (let same : prefix ≡ p = cc in other (sym same))) a))
 ]
 
 -- where an announcement of a prefix goes, what is announced of other prefixes stays

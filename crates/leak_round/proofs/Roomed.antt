@@ -1,11 +1,12 @@
 -- A table that gets more room has the entries that it had.
-use Rattle.std.proofs.Common.{◌≡◌, ◌≢◌, ◌⊎◌, inl, inr, ℕ, zero, suc, ◌-◌, ◌<◌, ◌≤◌, true, Option, Some, None, Result, Ok, Err, IfOk, option_map, unwrap_or, List, [], ◌∷◌, length, get_or, set, refl, sym, ap, subst, ◌∙◌, arith}
+use Rattle.std.proofs.Common.{◌≡◌, ◌≢◌, ◌⊎◌, inl, inr, ℕ, zero, suc, ◌-◌, ◌<◌, ◌≤◌, true, Option, Some, None, Result, IfOk, option_map, unwrap_or, List, [], ◌∷◌, length, get_or, set, refl, sym, ap, subst, ◌∙◌, arith}
 use Rattle.std.specs.Prelude.{is_some, IsSome, IsTrue, slice_get, option_and_then}
 use Rattle.std.specs.List.{sum_by}
 use Rattle.std.proofs.lemmas.Bool.{cases_eq}
 use Rattle.std.proofs.lemmas.List.{length-set}
 use Rattle.std.proofs.lemmas.List.Sums.{sum_by-set}
 use Rattle.std.proofs.lemmas.Option.{slice_get_within, get_or_from_slice_get}
+use Rattle.std.proofs.lemmas.Result.{IfOk-weaker}
 use Rattle.net_names.specs.Prefixes.{PrefixValue}
 use Rattle.path_pool.specs.declared.pool.PathPool.{PathPool}
 use Rattle.path_pool.specs.Pool.{IsLive}
@@ -17,11 +18,12 @@ use Rattle.route_choice.specs.Routings.{entry_of}
 use Rattle.route_choice.specs.RoundTables.{table_at, tables_uses, uses_at}
 use Rattle.route_choice.specs.Tables.{held_at, prefix_of, table_uses}
 use Rattle.route_choice.proofs.Lists.{entries_same}
+use Rattle.dirty_recompute.proofs.CrowdLemmas.{set_get, set_keeps}
 use Rattle.leak_round.specs.Growth.{KeepsPaths}
 use Rattle.leak_round.specs.Overlays.{table_in, held_of}
 use Rattle.leak_round.specs.Found.{IsRoomed, AreRoomed, AreSame}
 use Rattle.leak_round.specs.Tables.{tables_in, kept_in, entry_uses, AreFull, AreRoundsFull}
-use Rattle.leak_round.proofs.Laying.{tables_there, round_place, place_round, uses_there, got_set, got_other, kept_is}
+use Rattle.leak_round.proofs.Laying.{tables_there, round_place, place_round, uses_there, kept_is}
 use Rattle.leak_round.proofs.Rounding.{same_or_not}
 use Rattle.leak_round.proofs.Seeding.{held_of-live}
 
@@ -42,11 +44,11 @@ module _ (old : List RoundTables) (round : ℕ) (prefix : PrefixValue) (before :
     pub after_is : tables_in (set old (round - 1) after) round ≡ Some after
     after_is =
         let place = round_place old round before before_is in
-        place_round (set old (round - 1) after) round place.0 ∙ got_set old (round - 1) after (slice_get_within old (round - 1) before place.1)
+        place_round (set old (round - 1) after) round place.0 ∙ set_get old (round - 1) before after place.1
 
     pub other_is : (r : ℕ) → r ≢ round → tables_in (set old (round - 1) after) r ≡ tables_in old r
     other_is zero ne = refl
-    other_is (suc n) ne = got_other old (round - 1) n after (λ e. (let some = (round_place old round before before_is).0 in ne (omega (arith, e, some))))
+    other_is (suc n) ne = set_keeps old (round - 1) n after (λ e. (let some = (round_place old round before before_is).0 in ne (omega (arith, e, some))))
 
     -- one table has perhaps more room
     unfoldable pub roomed : AreRoomed old (set old (round - 1) after) round prefix
@@ -168,16 +170,12 @@ table_there pool plan rounds full round prefix from to known =
     some_is None e = cc
     some_is (Some x) e = refl
 
-pub if_ok : {X E : Type 0} (P Q : X → Type 0) (r : Result X E) → IfOk r P → ((x : X) → P x → Q x) → IfOk r Q
-if_ok P Q (Ok x) h f = f x h
-if_ok P Q (Err e) h f = h
-
 -- what holds of two tables holds of those that are found
 pub of_both : {X T E : Type 0} (P : T → T → X → Type 0) (a b : Option T) (t u : T) → a ≡ Some t → b ≡ Some u → (r : Result X E) → IfOk r (P t u) → IfOk r (λ o. (x y : T) → a ≡ Some x → b ≡ Some y → P x y o)
-of_both {X} {T} {E} P a b t u at bt r h = if_ok (P t u) (λ o. (x y : T) → a ≡ Some x → b ≡ Some y → P x y o) r h (λ o p x y ax bx.
+of_both {X} {T} {E} P a b t u at bt r h = IfOk-weaker r (P t u) (λ o. (x y : T) → a ≡ Some x → b ≡ Some y → P x y o) (λ o p x y ax bx.
     (let one : t ≡ x = one_of (sym at ∙ ax) in
     let two : u ≡ y = one_of (sym bt ∙ bx) in
-    coe 0 1 (i. P (one i) (two i) o) p))
+    coe 0 1 (i. P (one i) (two i) o) p)) h
   where
     one_of : {m n : T} → Some m ≡ Some n → m ≡ n
     one_of e = cc

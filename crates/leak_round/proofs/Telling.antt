@@ -1,5 +1,5 @@
 -- The triples of round, prefix and AS at which there is a change.
-use Rattle.std.proofs.Common.{◌≡◌, inl, inr, ℕ, suc, Bool, true, false, ◌==◌, cond, Option, Some, None, nat_eq, List, [], ◌∷◌, ◌++◌, map, length, refl, sym, ap, subst, ◌∙◌, arith}
+use Rattle.std.proofs.Common.{◌≡◌, inl, inr, ℕ, suc, Bool, true, false, ◌==◌, cond, Option, Some, nat_eq, List, [], ◌∷◌, ◌++◌, map, length, refl, sym, ap, subst, ◌∙◌, arith}
 use Rattle.std.specs.Prelude.{is_some}
 use Rattle.std.specs.List.{AllByRecursion, IsDistinct as AreDistinct}
 use Rattle.std.proofs.lemmas.Bool.{true≢false, or_cases, eqb-true}
@@ -17,6 +17,7 @@ use Rattle.leak_round.specs.Overlays.{is_at, change_in, changes_count, AreChange
 use Rattle.leak_round.proofs.Committing.{change_from}
 use Rattle.leak_round.proofs.Counting.{stands_occurs, apart_numbers, from_mapped, apart_mapped, from_appended, apart_appended}
 use Rattle.leak_round.proofs.Laying.{here_true, is_at-true}
+use Rattle.leak_round.proofs.Listing.{some_of}
 
 occurs_stands : (xs : List ℕ) (a : ℕ) → occurs a xs ≡ true → StandsIn a xs
 occurs_stands [] a o = cc
@@ -76,10 +77,6 @@ not_first rounds x xs w round prefix a o e = by (is_at round prefix x) refl
         let (r', p') = is_at-true round prefix y here in
         elim (w.apart 0 (suc i) x y (omega arith) refl at) [ inl ne ↦ absurd (ne (r ∙ sym r')) | inr ne ↦ absurd (ne (p ∙ sym p')) ]
 
-some_is : {X : Type 0} (o : Option X) → is_some o ≡ true → (x : X) × (o ≡ Some x)
-some_is None e = cc
-some_is (Some x) e = (x, refl)
-
 pub stands_changed : (rounds : List RoundTables) (xs : List Change) → AreChangesOf rounds xs → (t : ℕ × (PrefixValue × ℕ)) → StandsIn t (all_changed xs) → is_some (change_in xs t.0 t.1.0 t.1.1) ≡ true
 unfolding all_changed
 stands_changed rounds [] w t s = absurd s
@@ -91,7 +88,7 @@ stands_changed rounds (x ∷ xs) w t s = elim (from_appended (map (triple x) (pl
       subst (λ (u : ℕ × (PrefixValue × ℕ)). is_some (change_in (x ∷ xs) u.0 u.1.0 u.1.1) ≡ true) (sym e) now
   | inr later ↦
       let is = stands_changed rounds xs (later_changes rounds x xs w) t later in
-      let (o, e) = some_is (change_in xs t.0 t.1.0 t.1.1) is in
+      let (o, e) = some_of (change_in xs t.0 t.1.0 t.1.1) is in
       ap (λ b. is_some (cond b (change_at x.overlay t.1.1) (change_in xs t.0 t.1.0 t.1.1))) (not_first rounds x xs w t.0 t.1.0 t.1.1 o e) ∙ is
 ]
 
@@ -118,6 +115,6 @@ apart-all_changed rounds (x ∷ xs) w =
     (apart-all_changed rounds xs (later_changes rounds x xs w))
     (λ t l r.
     let (a, at, e) = from_mapped (triple x) one (places_of x.overlay) t l in
-    let (o, is) = some_is (change_in xs t.0 t.1.0 t.1.1) (stands_changed rounds xs (later_changes rounds x xs w) t r) in
+    let (o, is) = some_of (change_in xs t.0 t.1.0 t.1.1) (stands_changed rounds xs (later_changes rounds x xs w) t r) in
     let other : is_at x.round x.prefix x ≡ false = subst (λ (u : ℕ × (PrefixValue × ℕ)). is_at u.0 u.1.0 x ≡ false) e (not_first rounds x xs w t.0 t.1.0 t.1.1 o is) in
     true≢false (sym (here_true x) ∙ other))

@@ -1,8 +1,8 @@
 -- A table has no change where nobody is touched, no announcement is edited and the table of the round before has no change.
 use Rattle.std.proofs.Common.{◌≡◌, ◌⊎◌, inl, inr, ℕ, ◌+◌, ◌-◌, ◌≤◌, Bool, true, false, Option, None, Some, option_map, is_some, Result, Ok, Err, cond, List, [], ◌∷◌, length, map, refl, sym, ap, subst, ◌∙◌, arith}
 use Rattle.std.specs.List.{filter, list_any}
-use Rattle.std.specs.Prelude.{slice_get, OnErr, OnOk}
-use Rattle.std.proofs.lemmas.Bool.{true≢false, cases_order, or_parts}
+use Rattle.std.specs.Prelude.{OnErr, OnOk}
+use Rattle.std.proofs.lemmas.Bool.{true≢false, or_parts}
 use Rattle.std.proofs.lemmas.List.{nil_from_length}
 use Rattle.std.proofs.lemmas.List.Sums.{sum_by_push}
 use Rattle.net_names.specs.Numbers.{occurs}
@@ -33,36 +33,21 @@ use Rattle.leak_round.specs.Overlays.{change_in, changes_uses, held_of, laid_in,
 use Rattle.leak_round.specs.Tables.{entry_uses, kept_in}
 use Rattle.leak_round.specs.Touched.{ases_in}
 use Rattle.leak_round.proofs.Changing.{kept_here, no_change_first}
-use Rattle.leak_round.proofs.Committing.{change_from}
 use Rattle.leak_round.proofs.Found.{all_found}
 use Rattle.leak_round.proofs.Keeping.{keeps_itself}
 use Rattle.leak_round.proofs.Laying.{is_at-true, kept_is}
+use Rattle.leak_round.proofs.Ordering.{change_there}
 use Rattle.leak_round.proofs.Paying.{cut_itself, cut_paid, paid_itself}
 
 module _ (w : PrefixValue → Setting) (g : Topology) (touched : PrefixValue → ℕ → Bool) (plan after : Plan) (xs ys : List Announced) (pool : PathPool) (rounds : List RoundTables) (cs : List Change) (first last : ℕ)
     (can : CanFind w g touched plan after xs ys pool rounds) (held : (k : ℕ) → entry_uses rounds k + changes_uses cs k ≤ holds_of pool k) (so_far : AreFound w g touched plan after pool rounds cs first last)
     (round : ℕ) (prefix : PrefixValue) (turn : IsTurn plan (length rounds) cs round prefix) (same_plan : after ≡ plan) (untouched : (a : ℕ) → touched prefix a ≡ false) (before : (round ≡ 1) ⊎ IsNoneIn cs (round - 1) prefix) where
-  -- two changes of the same table are the same one
-  one_change : (r : ℕ) (i j : ℕ) (y z : Change) → slice_get cs i ≡ Some y → slice_get cs j ≡ Some z → (y.round ≡ r) × (y.prefix ≡ prefix) → (z.round ≡ r) × (z.prefix ≡ prefix) → y ≡ z
-  one_change r i j y z at at' here here' = elim (cases_order i j) [
-    | inl e ↦ (let both : Some y ≡ Some z = sym at ∙ ap (slice_get cs) e ∙ at' in cc)
-    | inr (inl less) ↦ elim (so_far.changes.apart i j y z less at at') [ inl ne ↦ absurd (ne (here.0 ∙ sym here'.0)) | inr ne ↦ absurd (ne (here.1 ∙ sym here'.1)) ]
-    | inr (inr more) ↦ elim (so_far.changes.apart j i z y more at' at) [ inl ne ↦ absurd (ne (here'.0 ∙ sym here.0)) | inr ne ↦ absurd (ne (here'.1 ∙ sym here.1)) ]
-  ]
-
   none_before : (a : ℕ) → change_in cs (round - 1) prefix a ≡ None
   none_before a = elim before [
     | inl one ↦ (let zero_is : round - 1 ≡ 0 = omega (arith, one) in ap (λ n. change_in cs n prefix a) zero_is ∙ no_change_first w g touched plan after xs ys pool rounds cs first last can held so_far prefix a)
-    | inr found ↦ by found (change_in cs (round - 1) prefix a) refl
+    | inr found ↦ (let parts = is_at-true (round - 1) prefix found.change found.of_table in
+        sym (λ i. change_in cs (parts.0 i) (parts.1 i) a) ∙ change_there cs so_far.changes.apart found.place found.change found.at a ∙ found.none a)
   ]
-    where
-      by : IsNoneIn cs (round - 1) prefix → (o : Option (Option Held)) → change_in cs (round - 1) prefix a ≡ o → o ≡ None
-      by found None e = refl
-      by found (Some c) e =
-          let (j, z, at, here, change) = change_from cs (round - 1) prefix a c e in
-          let same : found.change ≡ z = one_change (round - 1) found.place j found.change z found.at at (is_at-true (round - 1) prefix found.change found.of_table) (is_at-true (round - 1) prefix z here) in
-          let none : Some c ≡ None = sym change ∙ ap (λ (v : Change). change_at v.overlay a) (sym same) ∙ found.none a in
-          cc
 
   -- what is held in the round before is as it was
   same_before : (a : ℕ) → kept_in pool rounds (round - 1) prefix a ≡ laid_in pool rounds cs (round - 1) prefix a

@@ -1,4 +1,5 @@
 use Rattle.std.proofs.Common.{◌≡◌, ℕ, ◌+◌, ◌-◌, ◌*◌, ◌≤◌, Option, option_map, Result, Ok, Err, [], List, length, sym, ap, subst, ◌∙◌, arith}
+use Rattle.std.proofs.lemmas.Result.{IfOk-weaker}
 use Rattle.std.specs.Prelude.{slice_get, OnOk}
 use Rattle.std.specs.Ordering.{nat_cmp}
 use Rattle.std.proofs.Math.Nat.{mul-le-mul_right}
@@ -13,7 +14,7 @@ use Rattle.leak_round.specs.Told.{IsToldOf}
 use Rattle.leak_round.specs.Touched.{touches}
 use Rattle.leak_round.proofs.Keeping.{room_left}
 use Rattle.leak_round.proofs.Paying.{paid_itself, paid_on}
-use Rattle.leak_round.proofs.Roomed.{if_ok, same_itself, same_on}
+use Rattle.leak_round.proofs.Roomed.{same_itself, same_on}
 use Rattle.leak_round.proofs.Turns.{can_still, none_found, found_none}
 use Rattle.leak_round.proofs.whole_edit.find_and_tell.Goals as goal
 
@@ -95,5 +96,5 @@ returns-clause-told g c =
     let Told = λ (cs : List Change) (o : Option ℕ) (rounds : ℕ) (d : RoundsDone). (round : ℕ) → 1 ≤ round → round ≤ rounds → ListsRising nat_cmp (IsToldOf cs o round) (ases_told d round) in
     let xs : c.as_slice.result.now ≡ c.loop-past.changes.items = c.as_slice.ensures.value in
     let count : c.len-rounds.result ≡ length c.args.tables.now.items = omega (arith, c.len-rounds.ensures, c.args.tables.now.ok.0) in
-    if_ok (Told c.as_slice.result.now c.edited_asn.result c.len-rounds.result) (Told c.loop-past.changes.items (option_map (λ e. e.asn) c.args.finding.now.edited.now) (length c.args.tables.now.items)) c.listed.result c.listed.ensures.told
-    (λ d h. coe 0 1 (i. Told (xs i) (c.edited_asn.ensures i) (count i) d) h)
+    IfOk-weaker c.listed.result (Told c.as_slice.result.now c.edited_asn.result c.len-rounds.result) (Told c.loop-past.changes.items (option_map (λ e. e.asn) c.args.finding.now.edited.now) (length c.args.tables.now.items))
+    (λ d h. coe 0 1 (i. Told (xs i) (c.edited_asn.ensures i) (count i) d) h) c.listed.ensures.told
