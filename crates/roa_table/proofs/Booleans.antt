@@ -1,5 +1,5 @@
 -- Tests of the elements of a list.
-use Rattle.std.proofs.Common.{◌≡◌, ℕ, zero, suc, ◌<◌, ◌≤◌, length, take, drop, get_or, arith, Bool, true, false, cond, ◌||◌, ◌&&◌, List, [], ◌∷◌, ◌++◌, refl, ap, ◌∙◌}
+use Rattle.std.proofs.Common.{◌≡◌, ℕ, zero, suc, ◌<◌, ◌≤◌, length, take, drop, get_or, arith, Bool, true, false, cond, ◌||◌, ◌&&◌, List, [], ◌∷◌, ◌++◌, refl, ap, ◌∙◌, append-nil}
 use Rattle.std.specs.List.{insert, remove, list_any, list_all, filter, AllByRecursion}
 use Rattle.std.proofs.lemmas.List.Elements.{filter-append}
 use Rattle.net_names.proofs.Shortening.{both, both_true}
@@ -69,21 +69,13 @@ module _ {A : Type 0} where
   pub filter_middle : (p : A → Bool) (front mid back : List A) → list_any p front ≡ false → list_all p mid ≡ true → list_any p back ≡ false → filter p (front ++ (mid ++ back)) ≡ mid
   filter_middle p front mid back f m b =
       filter-append p front (mid ++ back) ∙ ap (λ l. l ++ filter p (mid ++ back)) (filter_none p front f)
-      ∙ filter-append p mid back ∙ (λ i. filter_all p mid m i ++ filter_none p back b i) ∙ append_none mid
-    where
-      append_none : (xs : List A) → xs ++ [] ≡ xs
-      append_none [] = refl
-      append_none (x ∷ xs) = ap (λ l. x ∷ l) (append_none xs)
+      ∙ filter-append p mid back ∙ (λ i. filter_all p mid m i ++ filter_none p back b i) ∙ append-nil mid
 
   -- a filter over a list whose middle alone may pass
   pub filter_within : (p : A → Bool) (front mid back : List A) → list_any p front ≡ false → list_any p back ≡ false → filter p (front ++ (mid ++ back)) ≡ filter p mid
   filter_within p front mid back f b =
       filter-append p front (mid ++ back) ∙ ap (λ l. l ++ filter p (mid ++ back)) (filter_none p front f)
-      ∙ filter-append p mid back ∙ ap (λ l. filter p mid ++ l) (filter_none p back b) ∙ append_none (filter p mid)
-    where
-      append_none : (xs : List A) → xs ++ [] ≡ xs
-      append_none [] = refl
-      append_none (x ∷ xs) = ap (λ l. x ∷ l) (append_none xs)
+      ∙ filter-append p mid back ∙ ap (λ l. filter p mid ++ l) (filter_none p back b) ∙ append-nil (filter p mid)
 
   -- all of the front of a list pass, and all of its back
   pub all_take : (p : A → Bool) (xs : List A) (at : ℕ) → at ≤ length xs → ((j : ℕ) (d : A) → j < at → p (get_or xs j d) ≡ true) → list_all p (take at xs) ≡ true

@@ -1,5 +1,5 @@
 -- Chunks in order: what stands round a chunk, and what they are after one of them has changed.
-use Rattle.std.proofs.Common.{◌≡◌, ℕ, zero, suc, ◌-◌, ◌≤◌, ◌<◌, Bool, true, false, not, ◌||◌, ◌&&◌, List, [], ◌∷◌, ◌++◌, length, take, drop, get_or, set, refl, sym, ap, subst, ◌∙◌, arith, ◌⊎◌, inl, inr}
+use Rattle.std.proofs.Common.{◌≡◌, ℕ, zero, suc, ◌-◌, ◌≤◌, ◌<◌, Bool, true, false, not, ◌||◌, ◌&&◌, List, [], ◌∷◌, ◌++◌, length, take, drop, get_or, set, refl, sym, ap, subst, ◌∙◌, arith, ◌⊎◌, inl, inr, append_assoc}
 use Rattle.std.specs.List.{remove, list_all, AllByRecursion}
 use Rattle.std.specs.List.Sorted.{IsPartitionPoint, IsPartitionedBy}
 use Rattle.std.proofs.lemmas.Bool.{cases_lt}
@@ -33,11 +33,7 @@ set_at (x ∷ xs) (suc k) y h = ap (λ l. x ∷ l) (set_at xs k y (omega (arith,
 
 pub all_of-append : (F G : List Chunk) → all_of (F ++ G) ≡ all_of F ++ all_of G
 all_of-append [] G = refl
-all_of-append (f ∷ F) G = ap (λ l. f.vrps.items ++ l) (all_of-append F G) ∙ assoc f.vrps.items (all_of F) (all_of G)
-  where
-    assoc : (xs ys zs : List VrpValue) → xs ++ (ys ++ zs) ≡ (xs ++ ys) ++ zs
-    assoc [] ys zs = refl
-    assoc (x ∷ xs) ys zs = ap (λ l. x ∷ l) (assoc xs ys zs)
+all_of-append (f ∷ F) G = ap (λ l. f.vrps.items ++ l) (all_of-append F G) ∙ sym (append_assoc f.vrps.items (all_of F) (all_of G))
 
 -- what stands before a chunk and behind it
 pub record Around (F : List Chunk) (s : Chunk) (G : List Chunk) : Type 0 where

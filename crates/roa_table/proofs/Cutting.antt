@@ -1,5 +1,5 @@
 -- Chunks that are cut in two, and chunks that are filled one after the other.
-use Rattle.std.proofs.Common.{◌≡◌, ℕ, zero, suc, ◌+◌, ◌≤◌, ◌<◌, Bool, true, false, not, List, [], ◌∷◌, ◌++◌, length, take, take-append-drop, drop, get_or, set, refl, sym, ap, subst, ◌∙◌, arith, add-one}
+use Rattle.std.proofs.Common.{◌≡◌, ℕ, zero, suc, ◌+◌, ◌≤◌, ◌<◌, Bool, true, false, not, List, [], ◌∷◌, ◌++◌, length, take, take-append-drop, drop, get_or, set, refl, sym, ap, subst, ◌∙◌, arith, add-one, append_assoc}
 use Rattle.std.specs.List.{insert, list_all, AllByRecursion}
 use Rattle.std.proofs.lemmas.List.{drop_more}
 use Rattle.std.specs.Cmp.{tied_itself}
@@ -151,11 +151,7 @@ module _ (F : List Chunk) (s : Chunk) (G : List Chunk) (a : Around F s G) (t u :
   })
 
   pub cut_same : all_of (F ++ (t ∷ (u ∷ G))) ≡ all_of (F ++ (s ∷ G))
-  cut_same = all_of-append F (t ∷ (u ∷ G)) ∙ ap (λ l. all_of F ++ l) (assoc t.vrps.items u.vrps.items (all_of G) ∙ ap (λ l. l ++ all_of G) (sym cut_in.whole)) ∙ sym (all_of-append F (s ∷ G))
-    where
-      assoc : (xs ys zs : List VrpValue) → xs ++ (ys ++ zs) ≡ (xs ++ ys) ++ zs
-      assoc [] ys zs = refl
-      assoc (x ∷ xs) ys zs = ap (λ l. x ∷ l) (assoc xs ys zs)
+  cut_same = all_of-append F (t ∷ (u ∷ G)) ∙ ap (λ l. all_of F ++ l) (sym (append_assoc t.vrps.items u.vrps.items (all_of G)) ∙ ap (λ l. l ++ all_of G) (sym cut_in.whole)) ∙ sym (all_of-append F (s ∷ G))
 
 -- a chunk put in behind another one, which is changed then
 pub set-insert_next : {A : Type 0} (xs : List A) (k : ℕ) (t u : A) → k < length xs → set (insert xs (k + 1) u) k t ≡ take k xs ++ (t ∷ (u ∷ drop (suc k) xs))
@@ -242,11 +238,7 @@ module _ (old new : List VrpValue) (t : Chunk) (G : List Chunk) (takes : TakesLa
   )
 
   pub put_all : new ++ all_of (t ∷ G) ≡ old ++ all_of G
-  put_all = (λ i. takes.front i ++ (takes.back i ++ all_of G)) ∙ assoc (take takes.at old) (drop takes.at old) (all_of G) ∙ ap (λ l. l ++ all_of G) joined
-    where
-      assoc : (xs ys zs : List VrpValue) → xs ++ (ys ++ zs) ≡ (xs ++ ys) ++ zs
-      assoc [] ys zs = refl
-      assoc (x ∷ xs) ys zs = ap (λ l. x ∷ l) (assoc xs ys zs)
+  put_all = (λ i. takes.front i ++ (takes.back i ++ all_of G)) ∙ sym (append_assoc (take takes.at old) (drop takes.at old) (all_of G)) ∙ ap (λ l. l ++ all_of G) joined
 
   pub put_rising : IsRising new
   put_rising = subst IsRising (sym takes.front) (rising_left vrp_cmp (take takes.at old) (drop takes.at old) both_rise)

@@ -1,5 +1,5 @@
 -- The payloads of rows, and the first fault of rows behind others.
-use Rattle.std.proofs.Common.{◌≡◌, ℕ, ◌+◌, ◌≤◌, Bool, true, false, cond, ◌||◌, List, [], ◌∷◌, ◌++◌, length, refl, sym, ap, subst, ◌∙◌, arith, Option, Some, None, Result, Ok, Err}
+use Rattle.std.proofs.Common.{◌≡◌, ℕ, ◌+◌, ◌≤◌, Bool, true, false, cond, ◌||◌, List, [], ◌∷◌, ◌++◌, length, refl, sym, ap, subst, ◌∙◌, arith, Option, Some, None, Result, Ok, Err, append_assoc, append-nil}
 use Rattle.std.specs.Prelude.{nat_lt, is_ok}
 use Rattle.std.specs.List.{list_all, dedup, dedup_from, cons_option}
 use Rattle.std.specs.Option.{option_map, option_or}
@@ -95,10 +95,6 @@ given-push xs x v e = ap set_of (payloads_of-push xs x v e) ∙ set_of-turned (p
 count_push : (xs : List Record) (x : Record) (v : VrpValue) → payload_of x ≡ Ok v → count (given (xs ++ (x ∷ []))) ≡ cond (has (given xs) v) (count (given xs)) (count (given xs) + 1)
 count_push xs x v e = ap count (given-push xs x v e) ∙ fin.len-insert vrp_total (given xs) v tt
 
-pub rows_assoc : (xs ys zs : List Record) → xs ++ (ys ++ zs) ≡ (xs ++ ys) ++ zs
-rows_assoc [] ys zs = refl
-rows_assoc (x ∷ xs) ys zs = ap (λ l. x ∷ l) (rows_assoc xs ys zs)
-
 -- the fault of a row of this number, of which this was read, where it is told whether the rows up to it give too many payloads
 abbrev pub fault_by : ℕ → Result VrpValue (ℕ → VrpError) → Bool → Option VrpError
 fault_by n r many = option_map (λ e. e n) (option_or (result_err r) (then_some many fault.TooMany))
@@ -157,15 +153,11 @@ is_payload (Err w) e = cc e
 
 -- readable rows with few payloads have no fault, so the first one is behind them
 pub first_behind : (before done left : List Record) → list_all (λ r. is_ok (payload_of r)) done ≡ true → count (given (before ++ done)) ≤ 2000000 → first_fault before (done ++ left) ≡ first_fault (before ++ done) left
-first_behind before [] left h few = ap (λ l. first_fault l left) (sym (append_none before))
-  where
-    append_none : (xs : List Record) → xs ++ [] ≡ xs
-    append_none [] = refl
-    append_none (x ∷ xs) = ap (λ l. x ∷ l) (append_none xs)
+first_behind before [] left h few = ap (λ l. first_fault l left) (sym (append-nil before))
 first_behind before (row ∷ done) left h few =
     let k = both _ _ h in
     let p = is_payload (payload_of row) k.left in
-    let joined = rows_assoc before (row ∷ []) done in
+    let joined = sym (append_assoc before (row ∷ []) done) in
     let fewer : count (given ((before ++ (row ∷ [])) ++ done)) ≤ 2000000 = subst (λ l. count (given l) ≤ 2000000) joined few in
     let here = no_fault before row p.0 p.1 (below _ _ (count_given (before ++ (row ∷ [])) done) fewer) in
     ap (λ o. option_or o (first_fault (before ++ (row ∷ [])) (done ++ left))) here
@@ -180,14 +172,10 @@ none_left (Some x) p e = cc e
 
 -- where rows have no fault, they are readable and have few payloads
 pub few_behind : (before done left : List Record) → first_fault before (done ++ left) ≡ None → count (given before) ≤ 2000000 → count (given (before ++ done)) ≤ 2000000
-few_behind before [] left e few = subst (λ l. count (given l) ≤ 2000000) (sym (append_none before)) few
-  where
-    append_none : (xs : List Record) → xs ++ [] ≡ xs
-    append_none [] = refl
-    append_none (x ∷ xs) = ap (λ l. x ∷ l) (append_none xs)
+few_behind before [] left e few = subst (λ l. count (given l) ≤ 2000000) (sym (append-nil before)) few
 few_behind before (row ∷ done) left e few =
     let k = none_left (fault_of before row) (first_fault (before ++ (row ∷ [])) (done ++ left)) e in
-    subst (λ l. count (given l) ≤ 2000000) (sym (rows_assoc before (row ∷ []) done))
+    subst (λ l. count (given l) ≤ 2000000) (append_assoc before (row ∷ []) done)
     (few_behind (before ++ (row ∷ [])) done left k.1 (few_after before row k.0))
 
 -- the number of a list with the members of another one, in rising order

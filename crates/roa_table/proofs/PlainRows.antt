@@ -1,5 +1,5 @@
 -- The record of a row without quotes: its fields are what stands between its commas.
-use Rattle.std.proofs.Common.{◌≡◌, ℕ, zero, suc, ◌<◌, ◌≤◌, ◌+◌, Bool, true, false, cond, not, ◌||◌, List, [], ◌∷◌, ◌++◌, take, drop, get_or, take-append-drop, length-drop, ◌-◌, ◌&&◌, Option, Some, None, refl, sym, ap, subst, ◌∙◌, length, arith, inl, inr, ◌⊎◌}
+use Rattle.std.proofs.Common.{◌≡◌, ℕ, zero, suc, ◌<◌, ◌≤◌, ◌+◌, Bool, true, false, cond, not, ◌||◌, List, [], ◌∷◌, ◌++◌, take, drop, get_or, take-append-drop, length-drop, ◌-◌, ◌&&◌, Option, Some, None, refl, sym, ap, subst, ◌∙◌, length, arith, inl, inr, ◌⊎◌, append_assoc, append-nil}
 use Rattle.std.specs.Prelude.{◌==◌}
 use Rattle.std.specs.List.{list_all, position, position_or_len}
 use Rattle.std.proofs.lemmas.List.{drop_more, take_all}
@@ -19,14 +19,6 @@ use Rattle.roa_table.specs.Standing.{Record, records_left}
 use Rattle.roa_table.specs.Plain.{stops_line, stops_field, SplitsField, EndsLine, IsLineEnd, BeginsRows}
 use Rattle.roa_table.proofs.CsvRecords.{enough, records_suc, left_is, left_none, left_some}
 use Rattle.std.proofs.lemmas.Bool.{not-true as not_so}
-
-pub append_none : {X : Type 0} (xs : List X) → xs ++ [] ≡ xs
-append_none [] = refl
-append_none (x ∷ xs) = ap (λ l. x ∷ l) (append_none xs)
-
-assoc : {X : Type 0} (xs ys zs : List X) → (xs ++ ys) ++ zs ≡ xs ++ (ys ++ zs)
-assoc [] ys zs = refl
-assoc (x ∷ xs) ys zs = ap (λ l. x ∷ l) (assoc xs ys zs)
 
 -- what is read from a byte on, where it does this
 abbrev after_step : State × Action → ℕ → Record → List ℕ → List ℕ → Option Read
@@ -75,12 +67,12 @@ module _ (c : ℕ) (h : stops_field c ≡ false) where
 
 -- bytes that stop no field join the one at hand
 copies : (front more : List ℕ) (fields : Record) (field : List ℕ) → list_all (λ b. not (stops_field b)) front ≡ true → next_record default_config st.InField fields field (front ++ more) ≡ next_record default_config st.InField fields (field ++ front) more
-copies [] more fields field h = ap (λ f. next_record default_config st.InField fields f more) (sym (append_none field))
+copies [] more fields field h = ap (λ f. next_record default_config st.InField fields f more) (sym (append-nil field))
 copies (c ∷ front) more fields field h =
     let k = both _ _ h in
     read_step st.InField c (st.InField, act.Copy) (step_in c (not_so (stops_field c) k.left)) fields field (front ++ more)
     ∙ copies front more fields (field ++ (c ∷ [])) k.right
-    ∙ ap (λ f. next_record default_config st.InField fields f more) (assoc field (c ∷ []) front)
+    ∙ ap (λ f. next_record default_config st.InField fields f more) (append_assoc field (c ∷ []) front)
 
 -- the states in which a field starts, and whether the first byte goes on as in any of them
 pub record Opens (s : State) : Type 0 where
@@ -164,28 +156,28 @@ ends_here [] end b fields field text (inl e) = record {
   read = (fields ++ (field ∷ []), st.StartRecord, []);
   is = ap (next_record default_config (inside b) fields field) e ∙ at_end b fields field;
   more = [];
-  starts = sym (append_none (fields ++ (field ∷ [])));
+  starts = sym (append-nil (fields ++ (field ∷ [])));
   left = refl;
 }
 ends_here [] end b fields field text (inr e) = record {
   read = (fields ++ (field ∷ []), st.AfterCr, []);
   is = ap (next_record default_config (inside b) fields field) e ∙ read_step (inside b) 13 (st.AfterCr, act.EndRecord) (at_return b) fields field [];
   more = [];
-  starts = sym (append_none (fields ++ (field ∷ [])));
+  starts = sym (append-nil (fields ++ (field ∷ [])));
   left = left_none st.AfterCr [] (none_at_end st.AfterCr refl) ∙ sym (left_none st.StartRecord [] (none_at_end st.StartRecord refl));
 }
 ends_here (c ∷ behind) end b fields field text (inl e) = record {
   read = (fields ++ (field ∷ []), st.StartRecord, behind);
   is = ap (next_record default_config (inside b) fields field) (e ∙ ap (λ x. x ∷ behind) end) ∙ read_step (inside b) 10 (st.StartRecord, act.EndRecord) (at_feed b) fields field behind;
   more = [];
-  starts = sym (append_none (fields ++ (field ∷ [])));
+  starts = sym (append-nil (fields ++ (field ∷ [])));
   left = sym (ap (λ x. records_left st.StartRecord (x ∷ behind)) end ∙ behind_feed behind);
 }
 ends_here (c ∷ behind) end b fields field text (inr e) = record {
   read = (fields ++ (field ∷ []), st.AfterCr, c ∷ behind);
   is = ap (next_record default_config (inside b) fields field) e ∙ read_step (inside b) 13 (st.AfterCr, act.EndRecord) (at_return b) fields field (c ∷ behind);
   more = [];
-  starts = sym (append_none (fields ++ (field ∷ [])));
+  starts = sym (append-nil (fields ++ (field ∷ [])));
   left = ap (λ x. records_left st.AfterCr (x ∷ behind)) end ∙ skipped st.AfterCr 10 behind refl ∙ sym (ap (λ x. records_left st.StartRecord (x ∷ behind)) end ∙ behind_feed behind);
 }
 
@@ -195,7 +187,7 @@ module _ (rest : List ℕ) (end : IsLineEnd rest) where
     line_ends : (b : Bool) (part : List ℕ) (fields : Record) (field : List ℕ) → list_all (λ c. not (stops_line c)) part ≡ true → Ends (inside b) fields field (part ++ last) fields rest
     line_ends b [] fields field h =
         let e = ends_here rest end b fields field last is_last in
-        record { read = e.read; is = e.is; more = field ∷ e.more; starts = e.starts ∙ assoc fields (field ∷ []) e.more; left = e.left }
+        record { read = e.read; is = e.is; more = field ∷ e.more; starts = e.starts ∙ append_assoc fields (field ∷ []) e.more; left = e.left }
     line_ends b (c ∷ part) fields field h =
         let k = both _ _ h in
         by (c == 44) (in_line b c (not_so (stops_line c) k.left)) (line_ends true part (fields ++ (field ∷ [])) [] k.right) (line_ends false part fields (field ++ (c ∷ [])) k.right)
@@ -207,7 +199,7 @@ module _ (rest : List ℕ) (end : IsLineEnd rest) where
           read = f.read;
           is = read_step (inside b) c (st.StartField, act.EndField) e fields field (part ++ last) ∙ f.is;
           more = field ∷ f.more;
-          starts = f.starts ∙ assoc fields (field ∷ []) f.more;
+          starts = f.starts ∙ append_assoc fields (field ∷ []) f.more;
           left = f.left;
         }
         by false e f g = record {

@@ -1,5 +1,5 @@
 -- How far a file has been read, and what it comes to.
-use Rattle.std.proofs.Common.{◌≡◌, ℕ, ◌+◌, ◌≤◌, ◌<◌, true, false, ◌||◌, List, [], ◌∷◌, ◌++◌, drop, refl, sym, ap, subst, ◌∙◌, arith, Option, Some, None, Result, Ok, Err, inl, inr, ◌⊎◌}
+use Rattle.std.proofs.Common.{◌≡◌, ℕ, ◌+◌, ◌≤◌, ◌<◌, true, false, ◌||◌, List, [], ◌∷◌, ◌++◌, drop, refl, sym, ap, subst, ◌∙◌, arith, Option, Some, None, Result, Ok, Err, inl, inr, ◌⊎◌, append_assoc, append-nil}
 use Rattle.std.specs.Prelude.{is_ok, IsErr}
 use Rattle.std.specs.Ordering.{eq_by_cmp}
 use Rattle.std.proofs.lemmas.List.{length-append}
@@ -27,7 +27,7 @@ use Rattle.roa_table.proofs.Rising.{eq_is}
 use Rattle.roa_table.proofs.Placed.{same_set_of, count_set_of}
 use Rattle.roa_table.proofs.CsvRecords.{ended, more}
 use Rattle.roa_table.proofs.PlainRows.{strip_bom-line_end}
-use Rattle.roa_table.proofs.Gathered.{first_fault, faulty, rows_assoc, stands_in-push, payloads_of-push, first_behind, few_behind}
+use Rattle.roa_table.proofs.Gathered.{first_fault, faulty, stands_in-push, payloads_of-push, first_behind, few_behind}
 
 -- the file has no header, and so no rows
 pub no_rows : (b : ByteReader) (bytes : List ℕ) (fields : Record) → GoesOn b (records default_config (strip_bom bytes)) false fields → rows_of bytes ≡ []
@@ -60,7 +60,7 @@ module _ (a b : ByteReader) (bytes : List ℕ) (row : ℕ) (r : IsReading a byte
       record {
         done = r.done ++ (fields ∷ []);
         left = m.next;
-        rows = r.rows ∙ ap (λ l. r.done ++ l) m.is ∙ rows_assoc r.done (fields ∷ []) m.next;
+        rows = r.rows ∙ ap (λ l. r.done ++ l) m.is ∙ sym (append_assoc r.done (fields ∷ []) m.next);
         stands = m.stands;
         counted = ap (λ n. n + 1) r.counted ∙ omega (arith, length-append r.done (fields ∷ []));
       }
@@ -100,7 +100,7 @@ module _ (bytes : List ℕ) (left : List Record) (row : ℕ) (vs : List VrpValue
         by (Err w) e k = absurd k
         by (Ok v) e k = record {
           done = g.done ++ (fields ∷ []);
-          rows = g.rows ∙ ap (λ l. g.done ++ l) left_has ∙ rows_assoc g.done (fields ∷ []) next;
+          rows = g.rows ∙ ap (λ l. g.done ++ l) left_has ∙ sym (append_assoc g.done (fields ∷ []) next);
           counted = ap (λ n. n + 1) g.counted ∙ omega (arith, length-append g.done (fields ∷ []));
           readable = list_all_append (λ r. is_ok (payload_of r)) g.done (fields ∷ []) g.readable (both_true _ _ (ap is_ok e) refl);
           members = λ q. k.members q ∙ ap (λ x. eq_by_cmp vrp_cmp q v || x) (g.members q) ∙ sym (ap (λ l. stands_in l q) (payloads_of-push g.done fields v e) ∙ stands_in-push (payloads_of g.done) v q);
@@ -130,17 +130,13 @@ module _ (bytes : List ℕ) (left : List Record) (row : ℕ) (vs : List VrpValue
   gathered_all none new t =
       let same : set_of new ≡ set_of vs = same_set_of new vs t.members in
       let few : count (set_of vs) ≤ 2000000 = subst (λ n. n ≤ 2000000) (sym (count_set_of new t.rising) ∙ ap count same) t.few in
-      let all : rows_of bytes ≡ g.done = g.rows ∙ ap (λ l. g.done ++ l) none ∙ append_none g.done in
+      let all : rows_of bytes ≡ g.done = g.rows ∙ ap (λ l. g.done ++ l) none ∙ append-nil g.done in
       record {
         rising = t.rising;
         few = t.few;
         sound = λ v m. g.sound v (sym (t.members v) ∙ m);
         is = ap (λ o. unless o (Ok (given (rows_of bytes)))) (first_left few ∙ ap (first_fault g.done) none) ∙ ap (λ l. Ok (given l)) all ∙ ap (λ s. Ok s) (sym (same ∙ set_is));
       }
-    where
-      append_none : (xs : List Record) → xs ++ [] ≡ xs
-      append_none [] = refl
-      append_none (x ∷ xs) = ap (λ l. x ∷ l) (append_none xs)
 
 -- the header has been read by a reader
 pub start_reading : (b : ByteReader) (bytes : List ℕ) (fields : Record) (vs : List VrpValue) → vs ≡ [] → GoesOn b (records default_config (strip_bom bytes)) true fields → IsGathering b bytes 2 vs

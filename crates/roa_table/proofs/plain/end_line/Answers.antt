@@ -1,6 +1,6 @@
-use Rattle.std.proofs.Common.{◌≡◌, ◌<◌, ◌∙◌, ◌∷◌, ◌++◌, ◌+◌, ◌-◌, get_or, take, drop, ap, sym, subst, refl, inl, inr, rules, length}
+use Rattle.std.proofs.Common.{◌≡◌, ◌<◌, ◌∙◌, ◌∷◌, ◌++◌, ◌+◌, ◌-◌, get_or, take, drop, ap, sym, subst, refl, inl, inr, rules, length, append-nil}
 use Rattle.roa_table.specs.Plain.{IsLineEnd, stops_line}
-use Rattle.roa_table.proofs.PlainRows.{append_none, free_before, free_of, within_text, slice_begins, slice_from, slices_join, begins_by}
+use Rattle.roa_table.proofs.PlainRows.{free_before, free_of, within_text, slice_begins, slice_from, slices_join, begins_by}
 use Rattle.roa_table.proofs.plain.end_line.Goals as goal
 
 pub returns-in_default : goal.returns-in_default
@@ -8,7 +8,7 @@ returns-in_default c = record {
   part = c.args.text.now;
   free = free_of stops_line c.args.text.now (sym c.in_default.is ∙ c.find_line_stop.ensures.place);
   ends = tt;
-  whole = inl (sym (append_none c.args.text.now));
+  whole = inl (sym (append-nil c.args.text.now));
 }
 
 pub returns-then-text-at-eq10 : goal.returns-then-text-at-eq10

@@ -1,6 +1,6 @@
-use Rattle.std.proofs.Common.{◌≡◌, true, get_or, drop, ◌+◌, ◌∙◌, subst, sym}
+use Rattle.std.proofs.Common.{◌≡◌, true, get_or, drop, ◌+◌, ◌∙◌, subst, sym, append-nil}
 use Rattle.roa_table.specs.Plain.{stops_field}
-use Rattle.roa_table.proofs.PlainRows.{append_none, free_before, free_of, head_is, within_text, stops_at, slice_begins, slices_join}
+use Rattle.roa_table.proofs.PlainRows.{free_before, free_of, head_is, within_text, stops_at, slice_begins, slices_join}
 use Rattle.roa_table.proofs.plain.split_field.Goals as goal
 
 pub returns-in-Some : goal.returns-in-Some
@@ -18,6 +18,6 @@ returns-in-Some c =
 pub returns-in-None : goal.returns-in-None
 returns-in-None c = record {
   free = free_of stops_field c.args.text.now c.in-None.ensures.place;
-  whole = sym (append_none c.args.text.now);
+  whole = sym (append-nil c.args.text.now);
   stops = λ stop behind is. cc is;
 }
