@@ -33,4 +33,6 @@ mod Moves
 mod PassedOn
 mod MovedTables
 mod Reaching
+mod Stays
+pub mod StillRight
 pub mod PathsOut

@@ -14,6 +14,7 @@ pub mod Bounds
 pub mod Found
 pub mod Edited
 pub mod Rounds
+pub mod Staying
 pub mod Built
 pub mod Plans
 pub mod Told

@@ -20,6 +20,7 @@ mod commits;
 mod planning;
 mod seeding;
 mod tidying;
+mod touching;
 
 use crate::announced::{Announced, announce_all};
 use crate::building::Building;
