@@ -34,30 +34,26 @@ module _ (old new : Topology) (rank : ℕ → ℕ) (fits : (x : ℕ) → RankFit
     ];
   }
 
+-- where the links of all other ASes are as they were, those of the first of two ASes are so but with the second
+pub links_at : (old new : Topology) (a b : ℕ) → ((x n : ℕ) → x ≢ a → x ≢ b → relation new x n ≡ relation old x n) → (n : ℕ) → n ≢ b → relation new a n ≡ relation old a n
+links_at old new a b same n other = elim (cases_eq n a) [
+  | inl e ↦ subst (λ (m : ℕ). relation new a m ≡ relation old a m) (sym e) (links_are_sound_lem.to_itself new a ∙ sym (links_are_sound_lem.to_itself old a))
+  | inr not_a ↦ links_are_sound_lem.alike new n a ∙ ap (option_map converse) (same n a not_a other) ∙ sym (links_are_sound_lem.alike old n a)
+]
+
 pub all_stay : RanksStay
 all_stay old new rank a b no_cycle are same stay = fitting_is_rank (relation new) rank all
   where
     fits : (x : ℕ) → RankFits (relation old) rank x
     fits = ranks_fit_at old rank no_cycle are
 
-    -- links with others are as they were at both ends
-    back : (x n : ℕ) → n ≢ a → n ≢ b → relation new x n ≡ relation old x n
-    back x n not_a not_b = links_are_sound_lem.alike new n x ∙ ap (option_map converse) (same n x not_a not_b) ∙ sym (links_are_sound_lem.alike old n x)
-
-    itself : (x : ℕ) → relation new x x ≡ relation old x x
-    itself x = links_are_sound_lem.to_itself new x ∙ sym (links_are_sound_lem.to_itself old x)
-
-    at_first : (n : ℕ) → n ≢ b → relation new a n ≡ relation old a n
-    at_first n other = elim (cases_eq n a) [ inl e ↦ subst (λ (m : ℕ). relation new a m ≡ relation old a m) (sym e) (itself a) | inr not_a ↦ back a n not_a other ]
-
-    at_second : (n : ℕ) → n ≢ a → relation new b n ≡ relation old b n
-    at_second n other = elim (cases_eq n b) [ inl e ↦ subst (λ (m : ℕ). relation new b m ≡ relation old b m) (sym e) (itself b) | inr not_b ↦ back b n other not_b ]
-
     all : (x : ℕ) → RankFits (relation new) rank x
     all x = elim (cases_eq x a) [
-      | inl e ↦ subst (RankFits (relation new) rank) (sym e) (fits_at old new rank fits a b at_first stay.above_customer stay.more_than_customer)
+      | inl e ↦ subst (RankFits (relation new) rank) (sym e) (fits_at old new rank fits a b (links_at old new a b same) stay.above_customer stay.more_than_customer)
       | inr not_a ↦ elim (cases_eq x b) [
-        | inl e ↦ subst (RankFits (relation new) rank) (sym e) (fits_at old new rank fits b a at_second (λ link. stay.below_provider (turned (relation new a b) (sym (links_are_sound_lem.alike new a b) ∙ link))) (λ link. stay.more_than_self (turned (relation old a b) (sym (links_are_sound_lem.alike old a b) ∙ link))))
+        | inl e ↦ subst (RankFits (relation new) rank) (sym e)
+        (fits_at old new rank fits b a (links_at old new b a (λ y n not_b other. same y n other not_b)) (λ link. stay.below_provider (turned (relation new a b) (sym (links_are_sound_lem.alike new a b) ∙ link)))
+        (λ link. stay.more_than_self (turned (relation old a b) (sym (links_are_sound_lem.alike old a b) ∙ link))))
         | inr not_b ↦ fits_at old new rank fits x x (λ n _. same x n not_a not_b) (λ link. (let none = links_are_sound_lem.to_itself new x in cc)) (λ link. (let none = links_are_sound_lem.to_itself old x in cc))
       ]
     ]

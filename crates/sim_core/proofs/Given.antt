@@ -4,7 +4,7 @@ use Rattle.std.specs.Ordering.{eq_by_cmp, nat_cmp}
 use Rattle.std.proofs.lemmas.Bool.{eq-eqb, eqb-true, true≢false}
 use Rattle.std.specs.FinMap as fin
 use Rattle.std.specs.FinSet as set
-use Rattle.as_graph.specs.Hierarchy.{HasNoProviderCycle}
+use Rattle.as_graph.specs.Hierarchy.{HasNoProviderCycle, IsRank}
 use Rattle.as_graph.specs.Room.{is_room_with}
 use Rattle.as_graph.specs.Topology.{Topology, as_count, relation, with_mark}
 use Rattle.policy_kinds.specs.declared.kind.Kind.{Kind}
@@ -16,8 +16,8 @@ use Rattle.scenario_text.specs.declared.acts.Edit.{Edit}
 use Rattle.scenario_text.specs.declared.acts.Edit.TheVariants.{Policy}
 use Rattle.sim_core.specs.Editing.{HasRoomToGive, IsGiven, IsRoomed, IsSmall, IsUnchanged, IsUndone, KeepsRest, ground_of}
 use Rattle.sim_core.specs.Edits.{IsEditRefusal, edited, passed_limit, refusal_of_edit}
-use Rattle.sim_core.specs.Ground.{DiffersAround}
-use Rattle.sim_core.specs.Views.{world_seen}
+use Rattle.sim_core.specs.Ground.{DiffersAround, StayIf}
+use Rattle.sim_core.specs.Views.{AreRight, world_seen}
 use Rattle.sim_core.specs.Steps.{IsTouched}
 use Rattle.sim_core.specs.World.{HasCycle, World, graph_of, topology}
 use Rattle.sim_core.specs.Loaded.{is_other}
@@ -29,6 +29,7 @@ use Rattle.as_places.specs.Places.{PlacedAses}
 use Rattle.as_graph.specs.Edits.{LinksAreSound}
 use Rattle.origin_validation.specs.Judging.{state_of}
 use Rattle.policy_kinds.specs.Kinds.{kind_policy}
+use Rattle.rank_order.specs.Ranks.{rank_at}
 use Rattle.roa_table.specs.Sets.{Payloads}
 use Rattle.stability_laws.specs.Plans.{has_prefix}
 use Rattle.sim_core.specs.declared.errors.EditError.{EditError}
@@ -39,7 +40,7 @@ use Rattle.sim_core.specs.declared.parts.Parts.{Parts}
 use Rattle.sim_core.proofs.LinkEdits.{has_by, limit_ases, rest_both}
 use Rattle.sim_core.proofs.PolicyEdits.{get_with, given_back, is_key, kind_is, with_kind}
 use Rattle.sim_core.proofs.Standing.{lone}
-use Rattle.sim_core.proofs.Doing.{all_undone, rest_kept, rest_rows, seen_with, small_world, unchanged_world}
+use Rattle.sim_core.proofs.Doing.{all_undone, begun_belongs, rest_kept, rest_rows, seen_with, small_world, unchanged_world}
 
 -- the world with room for an edit of a policy, and with the policy
 pub roomed_world : (old new : Parts) (a : ℕ) → IsRoomed old new a → world_seen new ≡ world_seen old
@@ -168,6 +169,11 @@ policy_differs sound old mid new a k touched roomed given own around = record {
 
 pub given_no_cycle : (old mid new : Parts) (a : ℕ) (k : Kind) → IsRoomed old mid a → IsGiven mid new a k → (HasCycle (world_seen old) → ⊥) → HasNoProviderCycle (relation new.graph)
 given_no_cycle old mid new a k roomed given none = subst (λ (l : LinkMap). HasNoProviderCycle (relation (graph_of l new.graph.marked))) (sym (given.links ∙ roomed.links)) (λ xs is. none (xs, is))
+
+-- no link differs, so that all ranks stay
+pub given_stays : (old mid new : Parts) (a : ℕ) (k : Kind) → IsRoomed old mid a → IsGiven mid new a k → AreRight old → (HasCycle (world_seen old) → ⊥) → (kept : Bool) → StayIf kept new.graph new.ranks
+given_stays old mid new a k roomed given right none kept said x =
+    subst (λ (l : LinkMap). IsRank (relation (graph_of l new.graph.marked)) x (rank_at new.ranks x)) (sym (given.links ∙ roomed.links)) ((begun_belongs old new right none (begun_rest old mid new a k roomed given)).ranks_are x)
 
 pub touched_policy : (s : Parts) (a : ℕ) (k : Kind) (p : PrefixValue) (x : ℕ) → (x ≡ a) ⊎ (((kind_policy k).marks ≢ (kind_policy (policy_at s.book a)).marks) × (r : Rel) × (relation s.graph a x ≡ Some r)) → IsTouched (world_seen s) (Policy a k) p x
 touched_policy s a k p x (inl same) = inl same

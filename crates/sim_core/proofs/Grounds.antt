@@ -278,11 +278,11 @@ quick_by old now links other e first last T graph map few =
     coe 0 1 (i. AreFewSteps (graph i) (plan_of old.rounds) (plan_of now) (kept_rounds old.rounds) (kept_rounds now) (IsTouched (world_seen old) e) (round_count old.rounds) first last)
     (steps_map links (plan_of old.rounds) (plan_of now) (kept_rounds old.rounds) (kept_rounds now) T (IsTouched (world_seen old) e) (round_count old.rounds) first last map few)
 
-pub quick_done : (old mid new : Parts) (e : Edit) (touched : PrefixValue → ℕ → Bool) (first last : ℕ) → AreFewSteps (relation mid.graph) (plan_of mid.rounds) (plan_of new.rounds) (kept_rounds mid.rounds) (kept_rounds new.rounds) (λ p a. touched p a ≡ true) (round_count mid.rounds) first last
-    → mid.rounds ≡ old.rounds → new.graph ≡ mid.graph → ((p : PrefixValue) (a : ℕ) → touched p a ≡ true → IsTouched (world_seen old) e p a) → IsQuick (world_seen old) (world_seen new) e (kept old).routings (kept new).routings first last
-quick_done old mid new e touched first last few rounds graph only =
-    quick_by old new.rounds (relation mid.graph) (relation (topology (world_seen new))) e first last (λ p a. touched p a ≡ true) (ap relation (sym graph)) (λ x c there. record { from = c.from; to = c.to; known = c.known; counts = inl (only x.1.0 x.1.1 there) })
-    (coe 0 1 (i. AreFewSteps (relation mid.graph) (plan_of (rounds i)) (plan_of new.rounds) (kept_rounds (rounds i)) (kept_rounds new.rounds) (λ p a. touched p a ≡ true) (round_count (rounds i)) first last) few)
+pub quick_done : (old mid new : Parts) (e : Edit) (T : PrefixValue → ℕ → Type 0) (first last : ℕ) → AreFewSteps (relation mid.graph) (plan_of mid.rounds) (plan_of new.rounds) (kept_rounds mid.rounds) (kept_rounds new.rounds) T (round_count mid.rounds) first last
+    → mid.rounds ≡ old.rounds → new.graph ≡ mid.graph → ((p : PrefixValue) (a : ℕ) → T p a → IsTouched (world_seen old) e p a) → IsQuick (world_seen old) (world_seen new) e (kept old).routings (kept new).routings first last
+quick_done old mid new e T first last few rounds graph only =
+    quick_by old new.rounds (relation mid.graph) (relation (topology (world_seen new))) e first last T (ap relation (sym graph)) (λ x c there. record { from = c.from; to = c.to; known = c.known; counts = inl (only x.1.0 x.1.1 there) })
+    (coe 0 1 (i. AreFewSteps (relation mid.graph) (plan_of (rounds i)) (plan_of new.rounds) (kept_rounds (rounds i)) (kept_rounds new.rounds) T (round_count (rounds i)) first last) few)
 
 -- what follows of an answer
 pub on_map : {T E P Q : Type 0} (r : Result T E) → (P → Q) → OnOk r P → OnOk r Q

@@ -17,6 +17,7 @@ pub mod Grounds
 pub mod Doing
 pub mod CycleLemmas
 pub mod LinkEdits
+pub mod Ends
 pub mod PolicyEdits
 pub mod Announcers
 pub mod Given

@@ -1,8 +1,8 @@
 -- Edits of links.
-use Rattle.std.proofs.Common.{◌≡◌, ◌≢◌, ◌⊎◌, inl, inr, ◌<◌, ◌≤◌, ◌+◌, ◌==◌, ◌||◌, ℕ, Bool, true, false, IsTrue, cond, nat_lt, nat_le, take, List, is_some, Option, None, Some, [], ◌∷◌, Result, Ok, Err, OnOk, OnErr, refl, sym, ap, subst, ◌∙◌, arith}
+use Rattle.std.proofs.Common.{◌≡◌, ◌≢◌, ◌⊎◌, inl, inr, ◌<◌, ◌≤◌, ◌+◌, ◌==◌, ◌||◌, ℕ, Bool, true, false, cond, nat_lt, nat_le, take, List, is_some, Option, None, Some, [], ◌∷◌, Result, Ok, Err, OnOk, OnErr, refl, sym, ap, subst, ◌∙◌, arith}
 use Rattle.std.specs.Prelude.{IfNone, IfSome}
 use Rattle.std.specs.Option.{option_map}
-use Rattle.std.proofs.lemmas.Bool.{cases_Bool, eq-eqb, eqb-true, true≢false}
+use Rattle.std.proofs.lemmas.Bool.{cases_Bool, eqb-true, true≢false}
 use Rattle.std.specs.Ordering.{nat_cmp}
 use Rattle.std.proofs.lemmas.Bool.Decides.{nat_tests}
 use Rattle.std.specs.FinMap as fin
@@ -10,7 +10,6 @@ use Rattle.std.specs.FinSet as set
 use Rattle.net_names.specs.Links.{LinkMap, converse}
 use Rattle.net_names.specs.declared.routes.Rel.{Rel}
 use Rattle.net_names.specs.declared.routes.Rel.TheVariants.{Customer, Peer, Provider}
-use Rattle.net_names.specs.Numbers.{occurs}
 use Rattle.net_names.proofs.Pairs.{pairs_total}
 use Rattle.as_graph.specs.declared.error.GraphError.{GraphError}
 use Rattle.as_graph.specs.declared.error.GraphError.TheVariants as graph_error
@@ -18,20 +17,17 @@ use Rattle.as_graph.specs.Edits.{AsesAreKept, EditsAreUndone, LinksAreSet, Links
 use Rattle.as_graph.specs.Hierarchy.{HasNoProviderCycle, IsProviderCycle}
 use Rattle.as_graph.specs.Refusals.{IsLinkRefusal}
 use Rattle.as_graph.specs.Topology.{Topology, as_count, has, relation}
-use Rattle.net_names.specs.Prefixes.{PrefixValue}
-use Rattle.origin_validation.specs.Judging.{state_of}
-use Rattle.policy_kinds.specs.Kinds.{kind_policy}
-use Rattle.policy_kinds.specs.declared.kind.Kind.{Kind}
-use Rattle.roa_table.specs.Sets.{Payloads}
-use Rattle.stability_laws.specs.Book.{PolicyBook, policy_at}
-use Rattle.stability_laws.specs.Plans.{Plan, has_prefix}
+use Rattle.stability_laws.specs.Plans.{announces}
 use Rattle.leak_round.specs.Rounds.{plan_of, round_count}
 use Rattle.leak_round.specs.declared.rounds.Rounds.{Rounds}
 use Rattle.scenario_text.specs.declared.acts.Edit.{Edit}
 use Rattle.scenario_text.specs.declared.acts.Edit.TheVariants.{Link}
 use Rattle.sim_core.specs.Editing.{BeginsWithLink, HasLinks, IsLinkStop, IsSmall, IsUnchanged, IsUndone, KeepsRest, ground_of, links_with}
 use Rattle.sim_core.specs.Edits.{IsEditRefusal, absent, edited, refusal_of_edit}
-use Rattle.sim_core.specs.Ground.{BelongTo, DiffersAround, Ground}
+use Rattle.sim_core.specs.Ground.{BelongTo, DiffersAtPair, Ground, StayIf}
+use Rattle.rank_order.specs.Ranks.{rank_at}
+use Rattle.rank_order.specs.Staying.{RanksStay, StayWith}
+use Rattle.sim_core.proofs.Announcers.{announcer_there}
 use Rattle.sim_core.specs.Views.{AreRight, world_seen}
 use Rattle.sim_core.specs.World.{World, HasCycle, graph_of, topology}
 use Rattle.sim_core.specs.declared.errors.EditError.{EditError}
@@ -160,17 +156,6 @@ link_stopped w graph a b r (refused.ProviderCycle cycle) none same h = (let firs
 pub has_by : (g h : Topology) → h.links ≡ g.links → h.marked ≡ g.marked → (a : ℕ) → has h a ≡ has g a
 has_by g h links marked a = λ i. has (graph_of (links i) (marked i)) a
 
--- who is none of the pair
-off_pair : (t s : Bool) → (t || (s || false)) ≡ false → (t ≡ false) × (s ≡ false)
-off_pair true s h = cc
-off_pair false true h = cc
-off_pair false false h = (refl, refl)
-
-apart_pair : (a b x : ℕ) → occurs x (a ∷ b ∷ []) ≡ false → (x ≢ a) × (x ≢ b)
-apart_pair a b x free =
-    let off = off_pair (a == x) (b == x) free in
-    ((λ e. true≢false (sym (eq-eqb a x (sym e)) ∙ off.0)), (λ e. true≢false (sym (eq-eqb b x (sym e)) ∙ off.1)))
-
 -- an edit of a pair's link changes nothing at other ASes
 pair_links : LinksAreSet → LinksAreTaken → (g : Topology) (a b : ℕ) (o : Option Rel) → a ≢ b → (x n : ℕ) → x ≢ a → x ≢ b → (links : LinkMap) → links ≡ links_with g a b o → relation (graph_of links g.marked) x n ≡ relation g x n
 pair_links setting taken g a b None apart x n not_a not_b links is = ap (λ (l : LinkMap). relation (graph_of l g.marked) x n) is ∙ taken.others g a b x n (λ p. not_a p.0) (λ p. not_b p.0)
@@ -188,27 +173,31 @@ pair_ases ases g a b (Some r) x not_a not_b links is =
         by true e = absurd (other (eqb-true u v e))
         by false e = refl
 
--- so that only the pair differs, and is touched
-pub link_differs : LinksAreSet → LinksAreTaken → AsesAreKept → (old mid : Parts) (a b : ℕ) (o : Option Rel) (touched : PrefixValue → ℕ → Bool) → a ≢ b → HasLinks old mid a b (links_with old.graph a b o)
-    → ((prefix : PrefixValue) (x : ℕ) → IsTrue (has_prefix (plan_of old.rounds) prefix) → occurs x (a ∷ b ∷ []) ≡ true → touched prefix x ≡ true) → DiffersAround (ground_of old) (ground_of mid) mid.rounds (a ∷ b ∷ []) touched
-link_differs setting taken ases old mid a b o touched apart h touches = record {
-  presence = λ x free. (let off = apart_pair a b x free in ap (λ (m : set.FinSet nat_cmp). has (graph_of mid.graph.links m) x) h.marked ∙ pair_ases ases old.graph a b o x off.0 off.1 mid.graph.links h.are);
-  links = λ x n free. (let off = apart_pair a b x free in pair_links setting taken old.graph a b o apart x n off.0 off.1 mid.graph.links h.are);
-  policies = λ x free. ap (λ (k : PolicyBook Kind). policy_at k x) h.book;
-  at_ends = λ prefix x known end. inl (touches prefix x (ap (λ (r : Rounds). has_prefix (plan_of r) prefix) (sym h.rest.rounds) ∙ known) end);
-  marks = λ prefix x n r known free at. ap (λ (k : PolicyBook Kind). (kind_policy (policy_at k n)).marks) h.book;
-  states = λ prefix x known free there. inr (λ origin is. ap (λ (v : Payloads). state_of v prefix origin) h.vrps);
+-- so that only the pair differs
+pub link_differs : LinksAreSet → LinksAreTaken → AsesAreKept → (old mid : Parts) (a b : ℕ) (o : Option Rel) → a ≢ b → HasLinks old mid a b (links_with old.graph a b o) → DiffersAtPair (ground_of old) (ground_of mid) (plan_of mid.rounds) a b
+link_differs setting taken ases old mid a b o apart h = record {
+  presence = λ x not_a not_b. ap (λ (m : set.FinSet nat_cmp). has (graph_of mid.graph.links m) x) h.marked ∙ pair_ases ases old.graph a b o x not_a not_b mid.graph.links h.are;
+  links = λ x n not_a not_b. pair_links setting taken old.graph a b o apart x n not_a not_b mid.graph.links h.are;
+  book = h.book;
+  payloads = h.vrps;
+  announcers = λ prefix x there. announcer_there old.graph (plan_of old.rounds) old.book.named old.named prefix x (ap (λ (r : Rounds). announces (plan_of r) prefix x) (sym h.rest.rounds) ∙ there);
 }
 
--- what is kept belongs to the world before the edit, from which the new one differs around the two ends alone
-pub link_begun : LinksAreSet → LinksAreTaken → AsesAreKept → (old mid : Parts) (a b : ℕ) (o : Option Rel) (touched : PrefixValue → ℕ → Bool) → AreRight old → (HasCycle (world_seen old) → ⊥) → a ≢ b
-    → HasLinks old mid a b (links_with old.graph a b o) → (plan : Plan) → plan ≡ plan_of old.rounds → ((prefix : PrefixValue) (x : ℕ) → IsTrue (has_prefix plan prefix) → occurs x (a ∷ b ∷ []) ≡ true → touched prefix x ≡ true)
-    → (was : Ground) × BelongTo was mid.ranks mid.rounds mid.watches.items × DiffersAround was (ground_of mid) mid.rounds (a ∷ b ∷ []) touched
-link_begun setting taken ases old mid a b o touched right none apart h plan is touches = (
-  ground_of old,
-  begun_belongs old mid right none h.rest,
-  link_differs setting taken ases old mid a b o touched apart h (λ prefix x known end. touches prefix x (ap (λ (p : Plan). has_prefix p prefix) is ∙ known) end),
-)
+-- what is kept belongs to the world before the edit, from which the new one differs at the pair alone
+pub link_begun : LinksAreSet → LinksAreTaken → AsesAreKept → (old mid : Parts) (a b : ℕ) (o : Option Rel) → AreRight old → (HasCycle (world_seen old) → ⊥) → a ≢ b → HasLinks old mid a b (links_with old.graph a b o)
+    → (was : Ground) × BelongTo was mid.ranks mid.rounds mid.watches.items × DiffersAtPair was (ground_of mid) (plan_of mid.rounds) a b
+link_begun setting taken ases old mid a b o right none apart h = (ground_of old, begun_belongs old mid right none h.rest, link_differs setting taken ases old mid a b o apart h)
+
+-- the ranks stay where those of the pair bear the edit
+pub link_stays : LinksAreSet → LinksAreTaken → AsesAreKept → RanksStay → (old mid : Parts) (a b : ℕ) (o : Option Rel) → AreRight old → (HasCycle (world_seen old) → ⊥) → a ≢ b → HasLinks old mid a b (links_with old.graph a b o) → (was is : Option Rel) → was ≡ relation old.graph a b → relation mid.graph a b ≡ is
+    → (kept : Bool) → (kept ≡ true → StayWith (rank_at mid.ranks a) (rank_at mid.ranks b) was is) → StayIf kept mid.graph mid.ranks
+link_stays setting taken ases stay old mid a b o right none apart h was is before after kept bear said =
+    stay old.graph mid.graph (rank_at mid.ranks) a b (begun_belongs old mid right none h.rest).no_cycle (begun_belongs old mid right none h.rest).ranks_are (link_differs setting taken ases old mid a b o apart h).links
+    (coe 0 1 (i. StayWith (rank_at mid.ranks a) (rank_at mid.ranks b) (before i) (sym after i)) (bear said))
+
+-- the new link is there
+pub linked_now : LinksAreSet → (old mid : Parts) (a b : ℕ) (r : Rel) → a ≢ b → HasLinks old mid a b (links_with old.graph a b (Some r)) → relation mid.graph a b ≡ Some r
+linked_now setting old mid a b r apart h = ap (λ (l : LinkMap). relation (graph_of l mid.graph.marked) a b) h.are ∙ setting.at old.graph a b r apart
 
 -- without its link the pair takes it again
 pub fits_cut : EditsAreUndone → (old mid : Parts) (a b : ℕ) → a ≢ b → HasLinks old mid a b (links_with old.graph a b None) → relation mid.graph a b ≡ None → IsSmall old.graph old.vrps → (r : Rel) → relation old.graph a b ≡ Some r → (e : GraphError) → IsLinkRefusal mid.graph a b r e → ⊥
@@ -271,11 +260,3 @@ cut_no_cycle sound setting taken old mid a b h none =
 -- a pair with a link is two ASes
 pub cut_apart : LinksAreSound → (s : Parts) (a b : ℕ) → relation s.graph a b ≢ None → a ≢ b
 cut_apart sound s a b there same = there (subst (λ (x : ℕ). relation s.graph a x ≡ None) same (sound.to_itself s.graph a))
-
-pub pair_end : (a b x : ℕ) → occurs x (a ∷ b ∷ []) ≡ true → (x ≡ a) ⊎ (x ≡ b)
-pair_end a b x there = by (a == x) refl (b == x) refl there
-  where
-    by : (t : Bool) → (a == x) ≡ t → (s : Bool) → (b == x) ≡ s → (t || (s || false)) ≡ true → (x ≡ a) ⊎ (x ≡ b)
-    by true e s f h = inl (sym (eqb-true a x e))
-    by false e true f h = inr (sym (eqb-true b x f))
-    by false e false f h = cc

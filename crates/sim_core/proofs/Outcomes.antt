@@ -1,5 +1,5 @@
 -- What an edit comes to: it is done in few steps, or refused.
-use Rattle.std.proofs.Common.{◌≡◌, ℕ, Bool, true, None, Result, Ok, Err, sym, subst}
+use Rattle.std.proofs.Common.{◌≡◌, ℕ, None, Result, Ok, Err, sym, subst}
 use Rattle.std.specs.Prelude.{IsErrAnd}
 use Rattle.net_names.specs.Prefixes.{PrefixValue}
 use Rattle.as_graph.specs.Hierarchy.{HasNoProviderCycle}
@@ -17,11 +17,11 @@ use Rattle.sim_core.proofs.Doing.{allowed_by, as_it_was, changed_done}
 use Rattle.sim_core.proofs.Grounds.{quick_done}
 
 -- an edit was begun, and what is kept taken to its world in few steps
-pub changed_quickly : (old mid new : Parts) (e : Edit) (changed : Changed) (touched : PrefixValue → ℕ → Bool) (first last : ℕ) → world_seen mid ≡ edited (world_seen old) e → KeepsRest old mid → absent (world_seen old) e ≡ None → passed_limit (world_seen mid) ≡ None → HasNoProviderCycle (relation mid.graph)
-    → IsChanged mid new None changed.routes → IsQuickChange mid new (λ p a. touched p a ≡ true) first last → ((p : PrefixValue) (a : ℕ) → touched p a ≡ true → IsTouched (world_seen old) e p a) → IsEditedQuickly old new e (Ok changed) first last
-changed_quickly old mid new e changed touched first last world rest there small none is few only = record {
+pub changed_quickly : (old mid new : Parts) (e : Edit) (changed : Changed) (T : PrefixValue → ℕ → Type 0) (first last : ℕ) → world_seen mid ≡ edited (world_seen old) e → KeepsRest old mid → absent (world_seen old) e ≡ None → passed_limit (world_seen mid) ≡ None → HasNoProviderCycle (relation mid.graph)
+    → IsChanged mid new None changed.routes → IsQuickChange mid new T first last → ((p : PrefixValue) (a : ℕ) → T p a → IsTouched (world_seen old) e p a) → IsEditedQuickly old new e (Ok changed) first last
+changed_quickly old mid new e changed T first last world rest there small none is few only = record {
   edited = changed_done old mid new e changed.routes world rest (allowed_by (world_seen old) (world_seen mid) e world there small none) is;
-  quick = quick_done old mid new e touched first last few rest.rounds is.graph only;
+  quick = quick_done old mid new e T first last few rest.rounds is.graph only;
 }
 
 -- an edit that is refused at the exit of a `?`, and leaves all as it was

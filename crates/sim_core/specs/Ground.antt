@@ -1,5 +1,5 @@
 -- What the routings of a world rest on, and where an edit changes it.
-use Rattle.std.specs.Prelude.{◌≡◌, ◌⊎◌, ◌<◌, ℕ, suc, Bool, true, false, IsTrue, Option, None, Some, List, map}
+use Rattle.std.specs.Prelude.{◌≡◌, ◌≢◌, ◌⊎◌, ◌<◌, ℕ, suc, Bool, true, false, IsTrue, Option, None, Some, List, map}
 use Rattle.net_names.specs.declared.routes.Rel.{Rel}
 use Rattle.net_names.specs.Numbers.{last_or, occurs}
 use Rattle.net_names.specs.Prefixes.{PrefixValue}
@@ -49,6 +49,18 @@ pub record BelongTo (g : Ground) (ranks : KeptRanks) (rounds : Rounds) (watches 
   pub ranks_are : (a : ℕ) → IsRank (relation g.graph) a (rank_at ranks a)
   pub rounds_are : AreRoundsOf g.graph g.payloads g.book (plan_of rounds) (round_count rounds) rounds
   pub watching : AreRoundWatches g.graph (plan_of rounds) (kept_rounds rounds) g.book (round_count rounds) (map seen_in watches)
+
+-- where the ranks are said to stay, they are those of the graph
+abbrev pub StayIf : Bool → Topology → KeptRanks → Type 0
+StayIf kept g ranks = kept ≡ true → (a : ℕ) → IsRank (relation g) a (rank_at ranks a)
+
+-- between two grounds nothing but the links of two ASes differ, and which of the two are in the graph; and who announces something is in the first
+pub record DiffersAtPair (old new : Ground) (plan : Plan) (a b : ℕ) : Type 0 where
+  pub presence : (x : ℕ) → x ≢ a → x ≢ b → has new.graph x ≡ has old.graph x
+  pub links : (x n : ℕ) → x ≢ a → x ≢ b → relation new.graph x n ≡ relation old.graph x n
+  pub book : new.book ≡ old.book
+  pub payloads : new.payloads ≡ old.payloads
+  pub announcers : (prefix : PrefixValue) (x : ℕ) → IsTrue (announces plan prefix x) → has old.graph x ≡ true
 
 -- the number ends a path that is announced of the prefix: it is an origin of it (RFC 6811, section 2)
 pub record IsOrigin (plan : Plan) (prefix : PrefixValue) (origin : ℕ) : Type 0 where

@@ -116,6 +116,7 @@ impl Parts {
             Ok(()) => {}
             Err(_) => return Err(EditError::Memory),
         }
+        let there = self.graph.has(asn);
         set_mark(&mut self.graph, asn, is)?;
         // `as_count` is called for its clause that no graph has more than 150,000 ASes.
         let _count = self.graph.as_count();
@@ -128,6 +129,7 @@ impl Parts {
         let difference = Difference {
             ends: &[asn],
             touched: &touched,
+            kept: there & self.graph.has(asn),
             edit: Some(edit),
         };
         let (ranks, rounds, watches) = (&mut self.ranks, &mut self.rounds, &mut self.watches);

@@ -1,16 +1,18 @@
 //! What belongs to an edited world: planned with all memory, and then put in place without any.
-ghost use Rattle.std.specs.Prelude.{◌≡◌, ◌≤◌, false, true, Some, IfOk, OnOk, OnErr, map};
+ghost use Rattle.std.specs.Prelude.{◌≡◌, ◌≤◌, ℕ, false, true, Some, IfOk, OnOk, OnErr, map};
 ghost use Rattle.std.specs.Option.{option_copied};
 ghost use Rattle.as_graph.specs.Hierarchy.{RanksFit};
-ghost use Rattle.as_graph.specs.Prelude.{HasNoProviderCycle, LinksAreSound, relation};
+ghost use Rattle.as_graph.specs.Prelude.{HasNoProviderCycle, IsRank, LinksAreSound, RankFits, has, relation};
+ghost use Rattle.net_names.specs.Prelude.{occurs};
 ghost use Rattle.origin_validation.specs.Prelude.{less};
 ghost use Rattle.path_pool.specs.Pool.{live_count};
 ghost use Rattle.policy_kinds.specs.Prelude.{kind_policy};
+ghost use Rattle.rank_order.specs.Prelude.{IsLastPlan, rank_after, rank_at};
 ghost use Rattle.stability_laws.specs.Laws.{OneFamily, PathsGoOn, RightByOffers, RightFollows};
 ghost use Rattle.stability_laws.specs.OfferPaths.{OfferPath};
 ghost use Rattle.leak_round.specs.Prelude.{HasChanges, plan_edited, is_open, kept as kept_rounds, plan_of, pool_of, round_count, touches};
 ghost use Rattle.sim_core.specs.Editing.{IsChanged, IsQuickChange, IsSmall, IsUnchanged, ground_less};
-ghost use Rattle.sim_core.specs.Ground.{AreSeenAlike, BelongTo, DiffersAround, Ground as AGround, IsSeedChange, ground_in};
+ghost use Rattle.sim_core.specs.Ground.{AreSeenAlike, BelongTo, DiffersAround, Ground as AGround, IsSeedChange, StayIf, ground_in};
 ghost use Rattle.sim_core.specs.Steps.{AreFewSteps};
 ghost use Rattle.sim_core.specs.Watching.{addrs_in};
 ghost use Rattle.leak_round.specs.declared.limits.TheConstants.{MOST_ROUNDS};
@@ -21,13 +23,13 @@ use crate::difference::Difference;
 use crate::parts::Parts;
 use crate::renewing::{make_room, renew};
 use crate::watching::RoundWatches;
-use as_graph::{links_are_sound, ranks_fit};
+use as_graph::{Graph, links_are_sound, ranks_fit};
 use dirty_recompute::PlannedRanks;
 use leak_round::{Rounds, Touched};
 use net_names::{Asn, NoMemory, Vrp};
 use origin_validation::States;
 use policy_kinds::Kind;
-use rank_order::Ranks;
+use rank_order::{RankPlan, Ranks};
 use roa_table::Vrps;
 use route_choice::Steps;
 use stability_laws::{
@@ -55,6 +57,29 @@ fn change_laws()
     paths_go_on::<Kind>();
 }
 
+// What the ranks become in the graph of an edited world: what they are if they stay, and else what is found.
+fn plan_ranks(
+    alloc: Global,
+    graph: &Graph,
+    difference: &Difference<'_>,
+    ranks: &mut Ranks,
+) -> Result<RankPlan, NoMemory>
+    requires no_cycle { HasNoProviderCycle (relation graph.now) }
+    requires fits { (a : ℕ) → has graph.now a ≡ true → occurs a difference.now.ends.now ≡ false →
+        RankFits (relation graph.now) (rank_at ranks.old) a }
+    requires only { (a : ℕ) → has graph.now a ≡ false → occurs a difference.now.ends.now ≡ false →
+        rank_at ranks.old a ≡ 0 }
+    requires stay { StayIf difference.now.kept graph.now ranks.old }
+    ensures same { ranks.new.by_as ≡ ranks.old.by_as }
+    ensures plan { IfOk result (IsLastPlan ranks.new) }
+    ensures ranks { IfOk result (λ p. (a : ℕ) → IsRank (relation graph.now) a (rank_after ranks.new p a)) }
+{
+    if difference.kept {
+        return Ok(RankPlan::none(alloc));
+    }
+    ranks.plan(alloc, graph, difference.ends)
+}
+
 /// Takes ranks, rounds and watches to an edited world, and to an edit of announcements, if there is one. It
 /// says how many entries differ.
 pub fn change<L: Ledger>(
@@ -72,6 +97,7 @@ pub fn change<L: Ledger>(
     requires no_cycle { HasNoProviderCycle (relation world.now.graph.now) }
     requires seeds { IsSeedChange (plan_of rounds.old) world.now.graph.now difference.now.ends.now
         (option_copied difference.now.edit) }
+    requires stay { StayIf difference.now.kept world.now.graph.now ranks.old }
     requires from { (old : AGround) × BelongTo old ranks.old rounds.old watches.old.items
         × DiffersAround old (ground_in world.now) rounds.old difference.now.ends.now
         (touches difference.now.touched.now) }
@@ -92,7 +118,7 @@ pub fn change<L: Ledger>(
     change_laws();
     plans_are_sound(rounds.seed_plan());
     make_room(world.graph, watches)?;
-    let rank_plan = ranks.plan(alloc, world.graph, difference.ends)?;
+    let rank_plan = plan_ranks(alloc, world.graph, difference, ranks)?;
     let planned = PlannedRanks {
         ranks,
         plan: &rank_plan,
@@ -137,17 +163,19 @@ impl Parts {
     }
 
     // Takes what is kept to the graph and the policies as they are now, and to all payloads, or to all
-    // but one. The ends are the ASes whose presence, links or policy differ.
+    // but one. The ends are the ASes whose presence, links or policy differ; `kept` says that all ranks stay.
     pub(crate) fn change_at<'a, L: Ledger>(
         &mut self,
         alloc: Global,
         ends: &'a [Asn],
         touched: &'a Touched,
+        kept: bool,
         but: Option<Vrp>,
         steps: &mut Steps<L>,
     ) -> Result<Changed, NoMemory>
         requires few_cells { live_count (pool_of self.old.rounds) ≤ MOST_CELLS }
         requires no_cycle { HasNoProviderCycle (relation self.old.graph) }
+        requires stay { StayIf kept self.old.graph self.old.ranks }
         requires from { (old : AGround) × BelongTo old self.old.ranks self.old.rounds self.old.watches.items
             × DiffersAround old (ground_less self.old but) self.old.rounds ends.now (touches touched.now) }
         ensures changed { IfOk result (λ c. IsChanged self.old self.new but c.routes) }
@@ -164,6 +192,7 @@ impl Parts {
         let difference = Difference {
             ends,
             touched,
+            kept,
             edit: None,
         };
         let (ranks, rounds, watches) = (&mut self.ranks, &mut self.rounds, &mut self.watches);

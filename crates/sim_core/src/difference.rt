@@ -10,6 +10,8 @@ pub struct Difference<'a> {
     pub ends: &'a [Asn],
     /// The ASes whose entries may be wrong, prefix by prefix.
     pub touched: &'a Touched,
+    /// Whether all ranks stay. If not, they are looked for.
+    pub kept: bool,
     /// The edit of announcements, if there is one.
     pub edit: Option<&'a SeedEdit>,
 }

@@ -1,45 +1,50 @@
 //! Edits of links.
-ghost use Rattle.std.specs.Prelude.{◌≡◌, ◌≢◌, ◌≤◌, min, max, true, Some, None, [], ◌∷◌, IfOk, IfErr, OnOk, OnErr, IfNone, IfSome};
+ghost use Rattle.std.specs.Prelude.{◌≡◌, ◌≢◌, ◌≤◌, ◌⊎◌, min, max, true, Some, None, IfOk, IfErr, OnOk, OnErr, IfNone, IfSome};
 ghost use Rattle.as_graph.specs.declared.error.GraphError.{GraphError as AGraphError};
 ghost use Rattle.as_graph.specs.Prelude.{AsesAreKept, EditsAreUndone, LinksAreSet, LinksAreSound, LinksAreTaken, with_link, HasNoProviderCycle, IsProviderCycle, IsLinkRefusal, is_room_for, relation};
 ghost use Rattle.cycle_check.specs.Prelude.{without_pair};
-ghost use Rattle.leak_round.specs.Prelude.{pool_of, touches};
+ghost use Rattle.leak_round.specs.Prelude.{plan_of, pool_of};
 ghost use Rattle.path_pool.specs.Pool.{live_count};
+ghost use Rattle.rank_order.specs.Prelude.{RanksStay, StayWith, rank_at};
 ghost use Rattle.scenario_text.specs.declared.acts.Edit.TheVariants.{Link, Unlink};
 ghost use Rattle.sim_core.specs.Editing.{BeginsWithLink, HasLinks, IsChanged, IsEditable, IsEditedQuickly, IsLinkStop, IsQuickChange, IsUnchanged, IsUndone, ground_of, links_with};
 ghost use Rattle.sim_core.specs.Edits.{IsEditRefusal};
 ghost use Rattle.sim_core.specs.declared.errors.EditError.TheVariants.{AbsentLink};
-ghost use Rattle.sim_core.specs.Ground.{BelongTo, DiffersAround, Ground as AGround};
+ghost use Rattle.sim_core.specs.Ground.{BelongTo, DiffersAtPair, Ground as AGround, StayIf};
 ghost use Rattle.sim_core.specs.Views.{world_seen};
 ghost use Rattle.leak_round.specs.declared.rounds.TheConstants.{MOST_CELLS};
 
 use crate::parts::Parts;
-use crate::touching::touched_ases;
 use crate::{Changed, EditError, EditLimit};
 use as_graph::{
     Graph, GraphError, ases_are_kept, edits_are_undone, links_are_set, links_are_sound,
     links_are_taken,
 };
 use cycle_check::{Cycle, closes};
-use leak_round::Touched;
 use net_names::{Asn, NoMemory, Rel};
+use origin_validation::States;
+use policy_kinds::Kind;
+use rank_order::ranks_stay;
 use route_choice::Steps;
+use stability_laws::{World, paths_go_on, plans_are_sound};
 use std::alloc::Global;
 use std::sync::ledger::Ledger;
 
-// What holds of links and of their edits.
+// What holds of links and of their edits, and of ranks.
 fn link_laws()
     ensures sound { LinksAreSound }
     ensures set { LinksAreSet }
     ensures taken { LinksAreTaken }
     ensures undone { EditsAreUndone }
     ensures kept { AsesAreKept }
+    ensures stay { RanksStay }
 {
     links_are_sound();
     links_are_set();
     links_are_taken();
     edits_are_undone();
     ases_are_kept();
+    ranks_stay();
 }
 
 // Sets the link of a pair that has room for it.
@@ -132,6 +137,53 @@ impl Parts {
         }
     }
 
+    // Whether two ASes are in the graph.
+    fn has_both(&self, a: Asn, b: Asn) -> bool {
+        self.graph.has(a) && self.graph.has(b)
+    }
+
+    // Whether all ranks stay where the second of two ASes, so far `old` to the first, became `new`. `there` says that
+    // both are in the graph and were in it: else the order by rank is made anew.
+    fn keeps_ranks(&self, there: bool, a: Asn, b: Asn, old: Option<Rel>, new: Option<Rel>) -> bool
+        ensures { result ≡ true → StayWith (rank_at self.now.ranks a) (rank_at self.now.ranks b) old new }
+    {
+        there && self.ranks.bear(a, b, old, new)
+    }
+
+    // Takes what is kept to the graph in which the link of two ASes was edited. An end of it chooses anew only for
+    // prefixes of which it may not be right still.
+    fn change_ends<L: Ledger>(
+        &mut self,
+        alloc: Global,
+        a: Asn,
+        b: Asn,
+        kept: bool,
+        steps: &mut Steps<L>,
+    ) -> Result<Changed, NoMemory>
+        requires few_cells { live_count (pool_of self.old.rounds) ≤ MOST_CELLS }
+        requires no_cycle { HasNoProviderCycle (relation self.old.graph) }
+        requires stay { StayIf kept self.old.graph self.old.ranks }
+        requires from { (old : AGround) × BelongTo old self.old.ranks self.old.rounds self.old.watches.items
+            × DiffersAtPair old (ground_of self.old) (plan_of self.old.rounds) a b }
+        ensures changed { IfOk result (λ c. IsChanged self.old self.new None c.routes) }
+        ensures quick { OnOk result (IsQuickChange self.old self.new (λ p x. (x ≡ a) ⊎ (x ≡ b)) steps.old steps.new) }
+        ensures err { OnErr result (IsUnchanged self.old self.new) }
+    {
+        links_are_sound();
+        paths_go_on::<Kind>();
+        plans_are_sound(self.rounds.seed_plan());
+        let touched = {
+            let states = States::of(&self.vrps);
+            let world = World {
+                graph: &self.graph,
+                book: &self.book,
+                states: &states,
+            };
+            self.rounds.touched_ends(alloc, &world, a, b)?
+        };
+        self.change_at(alloc, &[a, b], &touched, kept, None, steps)
+    }
+
     // Takes what is kept to the graph with a new link, unless the link closes a provider cycle.
     fn change_linked<L: Ledger>(
         &mut self,
@@ -139,7 +191,7 @@ impl Parts {
         a: Asn,
         b: Asn,
         rel: Rel,
-        touched: &Touched,
+        kept: bool,
         steps: &mut Steps<L>,
     ) -> Result<Changed, EditError>
         requires apart { a ≢ b }
@@ -147,11 +199,11 @@ impl Parts {
         requires there { HasNoProviderCycle (without_pair self.old.graph a b) }
         requires back { HasNoProviderCycle (without_pair self.old.graph b a) }
         requires few_cells { live_count (pool_of self.old.rounds) ≤ MOST_CELLS }
+        requires stay { StayIf kept self.old.graph self.old.ranks }
         requires from { (old : AGround) × BelongTo old self.old.ranks self.old.rounds self.old.watches.items
-            × DiffersAround old (ground_of self.old) self.old.rounds (a ∷ b ∷ []) (touches touched.now) }
+            × DiffersAtPair old (ground_of self.old) (plan_of self.old.rounds) a b }
         ensures changed { IfOk result (λ c. IsChanged self.old self.new None c.routes) }
-        ensures quick { OnOk result (IsQuickChange self.old self.new (λ p x. touches touched.now p x ≡ true)
-            steps.old steps.new) }
+        ensures quick { OnOk result (IsQuickChange self.old self.new (λ p x. (x ≡ a) ⊎ (x ≡ b)) steps.old steps.new) }
         ensures no_cycle { OnOk result (HasNoProviderCycle (relation self.old.graph)) }
         ensures err { OnErr result (IsUnchanged self.old self.new) }
         ensures refused { IfErr result (IsLinkStop self.old.graph a b rel) }
@@ -159,7 +211,7 @@ impl Parts {
         if let Some(cycle) = closed_by(alloc, &self.graph, a, b, rel)? {
             return Err(EditError::ProviderCycle(cycle));
         }
-        let changed = self.change_at(alloc, &[a, b], touched, None, steps)?;
+        let changed = self.change_ends(alloc, a, b, kept, steps)?;
         Ok(changed)
     }
 
@@ -178,10 +230,11 @@ impl Parts {
     {
         link_laws();
         let old = self.graph.rel(a, b);
-        let touched = touched_ases(alloc, self.rounds.seed_plan(), &[a, b])?;
+        let there = self.has_both(a, b);
         self.set_link(a, b, rel)?;
         self.is_small();
-        match self.change_linked(alloc, a, b, rel, &touched, steps) {
+        let kept = self.keeps_ranks(there, a, b, old, Some(rel));
+        match self.change_linked(alloc, a, b, rel, kept, steps) {
             Ok(changed) => Ok(changed),
             Err(error) => {
                 self.set_back(a, b, old);
@@ -222,10 +275,10 @@ impl Parts {
         link_laws();
         let link = self.graph.rel(a, b);
         self.is_small();
-        let touched = touched_ases(alloc, self.rounds.seed_plan(), &[a, b])?;
         self.cut_link(a, b)?;
         self.is_small();
-        match self.change_at(alloc, &[a, b], &touched, None, steps) {
+        let kept = self.keeps_ranks(self.has_both(a, b), a, b, link, None);
+        match self.change_ends(alloc, a, b, kept, steps) {
             Ok(changed) => Ok(changed),
             Err(_) => {
                 self.set_back(a, b, link);

@@ -59,7 +59,7 @@ impl Parts {
         ensures err { OnErr result (IsUnchanged self.old self.new) }
     {
         let touched = self.touched_by(alloc, vrp)?;
-        self.change_at(alloc, &[], &touched, None, steps)
+        self.change_at(alloc, &[], &touched, true, None, steps)
     }
 
     // Puts a payload in.
@@ -110,7 +110,7 @@ impl Parts {
         }
         let touched = self.touched_by(alloc, vrp)?;
         self.is_small();
-        let changed = self.change_at(alloc, &[], &touched, Some(vrp), steps)?;
+        let changed = self.change_at(alloc, &[], &touched, true, Some(vrp), steps)?;
         let _ = self.vrps.take(vrp);
         Ok(changed)
     }

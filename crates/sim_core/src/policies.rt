@@ -169,9 +169,12 @@ impl Parts {
         self.is_small();
         let touched = self.touched_with(alloc, asn, kind)?;
         self.make_room(asn, kind)?;
+        let there = self.graph.has(asn);
         self.give(asn, kind)?;
         self.is_small();
-        match self.change_at(alloc, &[asn], &touched, None, steps) {
+        // No link differs. The order by rank is kept only if it is still that of all ASes.
+        let kept = there & self.graph.has(asn);
+        match self.change_at(alloc, &[asn], &touched, kept, None, steps) {
             Ok(changed) => Ok(changed),
             Err(_) => {
                 self.give_back(asn, was);

@@ -21,6 +21,9 @@ change_at-requires-clause-from g c =
           (λ p known a there reads free origin is. sym (c.in_ok-touched.ensures.these p known a (s.reading a reads) reads free origin is)),
     )
 
+pub change_at-requires-clause-stay : goal.change_at-requires-clause-stay
+change_at-requires-clause-stay g c = λ _. c.requires.from.ranks_are
+
 pub returns-clause-quick : goal.returns-clause-quick
 returns-clause-quick g c =
     let s = c.args.self.now in

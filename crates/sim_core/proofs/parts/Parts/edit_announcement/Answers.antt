@@ -1,7 +1,10 @@
 use Rattle.std.proofs.Common.{◌≡◌, ◌≢◌, ◌≤◌, ◌-◌, ◌∙◌, ◌∷◌, [], ℕ, inl, inr, true, Some, refl, sym, ap, subst, arith}
 use Rattle.std.specs.Ordering.{nat_cmp}
 use Rattle.std.specs.FinSet as set
+use Rattle.net_names.specs.Links.{LinkMap}
+use Rattle.as_graph.specs.Hierarchy.{IsRank}
 use Rattle.as_graph.specs.Topology.{Topology, as_count, relation}
+use Rattle.rank_order.specs.Ranks.{rank_at}
 use Rattle.leak_round.specs.Limits.{IsWithinLimits}
 use Rattle.leak_round.specs.Rounds.{kept as kept_rounds, plan_of, round_count}
 use Rattle.leak_round.specs.Touched.{touches}
@@ -59,6 +62,15 @@ change-requires-clause-from g c =
     let belong = belongs s c.requires.editable.right c.requires.editable.no_cycle in
     let differs = new_differs s c.args.edit.now (edited (plan_of c.args.self.now.rounds) c.args.edit.now) a t c.set_mark.new.graph c.requires.accepted refl c.asn_of-asn.ensures c.is_named_after-is.ensures graph c.ases_are_kept.ensures c.right_follows.ensures c.links_are_sound.ensures belong (touches c.in_ok-touched.touched) c.in_ok-touched.ensures.this in
     (ground_of s, belong, subst (λ (v : Payloads). DiffersAround (ground_of s) (record { graph = c.set_mark.new.graph; payloads = v; book = s.book }) s.rounds (a ∷ []) (touches c.in_ok-touched.touched)) (sym c.of-states.ensures) differs)
+
+pub change-requires-clause-stay : goal.change-requires-clause-stay
+change-requires-clause-stay g c =
+    let s = c.args.self.now in
+    let a = c.asn_of-asn.result in
+    let t = c.is_named_after-is.result in
+    let graph = c.in_ok-set_mark.ensures.ok ∙ ap (λ (x : Topology). with_mark_if x a t) c.in-Ok.ensures.ok in
+    let links = new_links s c.args.edit.now (edited (plan_of s.rounds) c.args.edit.now) a t c.set_mark.new.graph c.requires.accepted refl c.asn_of-asn.ensures c.is_named_after-is.ensures graph in
+    λ _ x. subst (λ (l : LinkMap). IsRank (relation (graph_of l c.set_mark.new.graph.marked)) x (rank_at s.ranks x)) (sym links) ((belongs s c.requires.editable.right c.requires.editable.no_cycle).ranks_are x)
 
 pub invariant_of-self-in-Ok-change : goal.invariant_of-self-in-Ok-change
 invariant_of-self-in-Ok-change g c =

@@ -1,15 +1,14 @@
-use Rattle.std.proofs.Common.{◌≡◌, ◌∙◌, inl, inr, None, Some, option_map, refl, sym, ap}
+use Rattle.std.proofs.Common.{◌≡◌, ◌∙◌, ◌⊎◌, inl, inr, None, Some, option_map, refl, sym, ap}
 use Rattle.net_names.specs.Links.{LinkMap}
 use Rattle.as_graph.specs.Topology.{Topology, relation}
-use Rattle.leak_round.specs.Touched.{touches}
 use Rattle.scenario_text.specs.declared.acts.Edit.TheVariants.{Link}
 use Rattle.sim_core.specs.Edits.{passed_limit, refusal_of_edit}
 use Rattle.sim_core.specs.Views.{world_seen}
 use Rattle.sim_core.specs.World.{graph_of}
 use Rattle.sim_core.specs.declared.errors.EditError.TheVariants as refused
 use Rattle.sim_core.proofs.Doing.{small_world}
-use Rattle.sim_core.proofs.LinkEdits.{pair_end, back_linked, link_begun, link_stopped, links_undone, links_world, there_none}
-use Rattle.sim_core.proofs.Outcomes.{changed_quickly, edit_refused, edit_unbegun}
+use Rattle.sim_core.proofs.LinkEdits.{back_linked, link_begun, link_stays, link_stopped, linked_now, links_undone, links_world, there_none}
+use Rattle.sim_core.proofs.Outcomes.{changed_quickly, edit_refused}
 use Rattle.sim_core.proofs.parts.Parts.edit_link.Goals as goal
 
 pub change_linked-requires-clause-there : goal.change_linked-requires-clause-there
@@ -22,19 +21,26 @@ change_linked-requires-clause-back g c =
 
 pub change_linked-requires-clause-from : goal.change_linked-requires-clause-from
 change_linked-requires-clause-from g c =
-    link_begun c.link_laws.ensures.set c.link_laws.ensures.taken c.link_laws.ensures.kept c.args.self.now c.set_link.new.self c.args.a c.args.b (Some c.args.rel) (touches c.in_ok-touched.touched) c.requires.editable.right c.requires.editable.no_cycle
-    c.requires.apart c.in_ok-set_link.ensures.ok _ c.seed_plan.ensures c.in_ok-touched.ensures.these
+    link_begun c.link_laws.ensures.set c.link_laws.ensures.taken c.link_laws.ensures.kept c.args.self.now c.set_link.new.self c.args.a c.args.b (Some c.args.rel) c.requires.editable.right c.requires.editable.no_cycle c.requires.apart c.in_ok-set_link.ensures.ok
+
+pub change_linked-requires-clause-stay : goal.change_linked-requires-clause-stay
+change_linked-requires-clause-stay g c =
+    let old = c.args.self.now in
+    let mid = c.set_link.new.self in
+    let laws = c.link_laws.ensures in
+    link_stays laws.set laws.taken laws.kept laws.stay old mid c.args.a c.args.b (Some c.args.rel) c.requires.editable.right c.requires.editable.no_cycle c.requires.apart c.in_ok-set_link.ensures.ok c.rel-old.result (Some c.args.rel) c.rel-old.ensures
+    (linked_now laws.set old mid c.args.a c.args.b c.args.rel c.requires.apart c.in_ok-set_link.ensures.ok) c.keeps_ranks-kept.result c.keeps_ranks-kept.ensures
 
 pub returns-in-Ok : goal.returns-in-Ok
 returns-in-Ok g c =
     let old = c.args.self.now in
     let mid = c.set_link.new.self in
     let h = c.in_ok-set_link.ensures.ok in
-    changed_quickly old mid c.change_linked.new.self (Link c.args.a c.args.b c.args.rel) c.in-Ok.changed (touches c.in_ok-touched.touched) c.args.steps.now c.change_linked.new.steps (links_world old mid c.args.a c.args.b _ h) h.rest
-    refl (small_world mid c.is_small.ensures) c.in-Ok.ensures.no_cycle c.in-Ok.ensures.changed c.in-Ok.ensures.quick (λ p x there. pair_end c.args.a c.args.b x (c.in_ok-touched.ensures.only p x there))
+    changed_quickly old mid c.change_linked.new.self (Link c.args.a c.args.b c.args.rel) c.in-Ok.changed (λ p x. (x ≡ c.args.a) ⊎ (x ≡ c.args.b)) c.args.steps.now c.change_linked.new.steps (links_world old mid c.args.a c.args.b _ h) h.rest
+    refl (small_world mid c.is_small.ensures) c.in-Ok.ensures.no_cycle c.in-Ok.ensures.changed c.in-Ok.ensures.quick (λ p x there. there)
 
-pub returns : goal.returns
-returns g c =
+pub returns-in-Err : goal.returns-in-Err
+returns-in-Err g c =
     let e = Link c.args.a c.args.b c.args.rel in
     let old = c.args.self.now in
     let mid = c.set_link.new.self in
@@ -48,9 +54,6 @@ returns g c =
     (back_linked c.link_laws.ensures.undone old.graph c.args.a c.args.b c.args.rel c.requires.apart same.graph (ap (λ (t : Topology). t.links) alike.graph ∙ h.are) c.rel-old.result (sym c.rel-old.ensures)) in
     record { edited = (refusal, undone); quick = tt }
 
-pub returns-in_err-touched : goal.returns-in_err-touched
-returns-in_err-touched g c = edit_unbegun c.args.self.now _ c.from_residual.result _ _ c.from_residual.ensures.1
-
 pub returns-in_err-set_link : goal.returns-in_err-set_link
 returns-in_err-set_link g c =
-    edit_refused c.args.self.now _ _ c.in_err-set_link.field-0.0 c.from_residual-in_err-set_link.result _ _ c.from_residual-in_err-set_link.ensures.1 c.in_err-set_link.ensures.refused c.in_err-set_link.ensures.err
+    edit_refused c.args.self.now _ _ c.in_err-set_link.field-0.0 c.from_residual.result _ _ c.from_residual.ensures.1 c.in_err-set_link.ensures.refused c.in_err-set_link.ensures.err

@@ -1,10 +1,10 @@
-use Rattle.std.proofs.Common.{refl}
+use Rattle.std.proofs.Common.{◌≡◌, true, refl}
 use Rattle.leak_round.specs.Touched.{touches}
 use Rattle.scenario_text.specs.declared.acts.Edit.TheVariants.{Policy}
 use Rattle.sim_core.specs.Editing.{ground_of}
 use Rattle.sim_core.specs.declared.errors.EditError.TheVariants as refused
 use Rattle.sim_core.proofs.Doing.{begun_belongs, small_world}
-use Rattle.sim_core.proofs.Given.{touched_policy, back_accepted, begun_rest, begun_world, given_no_cycle, policy_differs, policy_refused, policy_undone, still_room}
+use Rattle.sim_core.proofs.Given.{touched_policy, back_accepted, begun_rest, begun_world, given_no_cycle, given_stays, policy_differs, policy_refused, policy_undone, still_room}
 use Rattle.sim_core.proofs.Outcomes.{changed_quickly, edit_refused, edit_unbegun}
 use Rattle.sim_core.proofs.parts.Parts.edit_policy.Goals as goal
 
@@ -21,6 +21,10 @@ change_at-requires-clause-from g c =
       policy_differs c.links_are_sound.ensures old mid new c.args.asn c.args.kind (touches c.in_ok-touched.touched) c.in_ok-make_room.ensures.ok c.in_ok-give.ensures.ok c.in_ok-touched.ensures.own c.in_ok-touched.ensures.neighbours,
     )
 
+pub change_at-requires-clause-stay : goal.change_at-requires-clause-stay
+change_at-requires-clause-stay g c =
+    given_stays c.args.self.now c.make_room.new.self c.give.new.self c.args.asn c.args.kind c.in_ok-make_room.ensures.ok c.in_ok-give.ensures.ok c.requires.right c.requires.no_cycle _
+
 pub returns-in-Ok : goal.returns-in-Ok
 returns-in-Ok g c =
     let old = c.args.self.now in
@@ -28,7 +32,7 @@ returns-in-Ok g c =
     let given = c.give.new.self in
     let roomed = c.in_ok-make_room.ensures.ok in
     let is = c.in_ok-give.ensures.ok in
-    changed_quickly old given c.change_at.new.self (Policy c.args.asn c.args.kind) c.in-Ok.changed (touches c.in_ok-touched.touched) c.args.steps.now c.change_at.new.steps (begun_world old mid given c.args.asn c.args.kind roomed is) (begun_rest old mid given c.args.asn c.args.kind roomed is)
+    changed_quickly old given c.change_at.new.self (Policy c.args.asn c.args.kind) c.in-Ok.changed (λ p x. touches c.in_ok-touched.touched p x ≡ true) c.args.steps.now c.change_at.new.steps (begun_world old mid given c.args.asn c.args.kind roomed is) (begun_rest old mid given c.args.asn c.args.kind roomed is)
     refl (small_world given c.is_small-2.ensures) (given_no_cycle old mid given c.args.asn c.args.kind roomed is c.requires.no_cycle) c.in-Ok.ensures.changed c.in-Ok.ensures.quick
     (λ p x there. touched_policy old c.args.asn c.args.kind p x (c.in_ok-touched.ensures.only p x there))
 

@@ -1,4 +1,4 @@
-use Rattle.std.proofs.Common.{◌≡◌, ◌∙◌, Some, None, cond, refl, sym, ap, subst}
+use Rattle.std.proofs.Common.{◌≡◌, ◌∙◌, true, Some, None, cond, refl, sym, ap, subst}
 use Rattle.std.specs.FinSet as set
 use Rattle.roa_table.specs.Sets.{Payloads, taken}
 use Rattle.leak_round.specs.Touched.{touches}
@@ -18,6 +18,9 @@ change_at-requires-clause-from g c =
     let now : Ground = record { graph = s.graph; payloads = taken s.vrps c.args.vrp; book = s.book } in
     (ground_of s, belongs s c.requires.right c.requires.no_cycle, payload_differs (ground_of s) now s.rounds (touches c.in_ok-touched.touched) refl refl (λ p known a there reads. c.in_ok-touched.ensures.these p known a (s.reading a reads) reads))
 
+pub change_at-requires-clause-stay : goal.change_at-requires-clause-stay
+change_at-requires-clause-stay g c = λ _. (belongs c.args.self.now c.requires.right c.requires.no_cycle).ranks_are
+
 pub returns : goal.returns
 returns g c =
     let s = c.args.self.now in
@@ -31,7 +34,7 @@ returns g c =
           (payload_allowed s e (taken s.vrps c.args.vrp) refl (ap (λ t. cond t None (Some (refused.AbsentVrp c.args.vrp))) (sym c.if-not-has.ensures)) (small_taken s.graph s.vrps c.args.vrp c.is_small.ensures) c.requires.no_cycle)
           (subst (λ (g : Ground). BelongTo g mid.ranks mid.rounds mid.watches.items) (λ i. record { graph = sym is.graph i; payloads = sym vrps i; book = sym is.book i }) is.belong)
           is.changed;
-      quick = quick_done s s mid e (touches c.in_ok-touched.touched) c.args.steps.now c.change_at.new.steps c.in_ok-changed.ensures.quick refl is.graph
+      quick = quick_done s s mid e (λ p a. touches c.in_ok-touched.touched p a ≡ true) c.args.steps.now c.change_at.new.steps c.in_ok-changed.ensures.quick refl is.graph
           (λ p x there. (let (covered, reads) = c.in_ok-touched.ensures.only p x there in (covered, reads_kind s x reads)));
     }
 
