@@ -1,5 +1,5 @@
 -- What the changes of tables need to be found, and what is found so far, said of what they are found by.
-use Rattle.std.specs.Prelude.{◌≡◌, ◌⊎◌, ℕ, ◌+◌, ◌-◌, ◌*◌, ◌≤◌, true, false, None, Some, List, [], ◌∷◌, ◌++◌, length, slice_get}
+use Rattle.std.specs.Prelude.{◌≡◌, ◌⊎◌, ℕ, ◌+◌, ◌-◌, ◌*◌, ◌≤◌, true, None, Some, List, [], ◌∷◌, ◌++◌, length, slice_get}
 use Rattle.net_names.specs.declared.routes.State.{State}
 use Rattle.net_names.specs.Prefixes.{PrefixValue}
 use Rattle.path_pool.specs.declared.pool.PathPool.{PathPool}
@@ -120,10 +120,9 @@ pub record IsNoneIn (xs : List Change) (round : ℕ) (prefix : PrefixValue) : Ty
   pub of_table : is_at round prefix change ≡ true
   pub none : (a : ℕ) → change_at change.overlay a ≡ None
 
--- no announcement is edited, nobody is touched for the prefix, and the table of the prefix in the round before, if there is one, has no change
-pub record IsUntouched {P V : Type 0} (x : Finding P V) (at : RoundPrefix) (xs : List Change) : Type 0 where
+-- no announcement is edited, and the table of the prefix in the round before, if there is one, has no change
+pub record AreSeedsKept {P V : Type 0} (x : Finding P V) (at : RoundPrefix) (xs : List Change) : Type 0 where
   pub unedited : x.edited.now ≡ None
-  pub untouched : (a : ℕ) → touches x.touched.now at.prefix a ≡ false
   pub before : (at.round ≡ 1) ⊎ IsNoneIn xs (at.round - 1) at.prefix
 
 -- behind the others stands that the table of the prefix in the round has no change

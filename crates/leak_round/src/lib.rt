@@ -12,8 +12,8 @@
 //! - `edit_if_any` and `edit_seeds` make the plan of seeds after the edit, with its announced paths in the pool;
 //! - `find_and_tell` goes through the rounds, and tells how many entries differ and where;
 //! - `find_in_round` goes through the prefixes of a round;
-//! - `find_change` finds the changes of one table: none where `is_untouched` says that nothing has a bearing on it. Else
-//!   it asks `seeds_and_wrong` for the seeds after the edit and the ASes that may hold something wrong, and
+//! - `find_change` finds the changes of one table: none where nobody is touched and `keeps_seeds` says that the seeds
+//!   stay. Else it asks `seeds_and_wrong` for the seeds after the edit and the ASes that may hold something wrong, and
 //!   `find_with_seeds` to put the changes behind the others;
 //! - `changes_in_round` looks the table up;
 //! - `changes_of_table` has its changes from `plan_edit` of `dirty_recompute`;
@@ -30,6 +30,7 @@ mod edited;
 mod ends;
 mod finding;
 mod holders;
+mod kept_seeds;
 mod laws;
 mod leaked;
 mod limits;
@@ -48,7 +49,6 @@ mod table_changes;
 mod table_seeds;
 mod told;
 mod touched;
-mod untouched;
 mod whole_edit;
 
 pub use laws::live_cells_are_reached;

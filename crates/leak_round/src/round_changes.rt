@@ -11,10 +11,10 @@ ghost use Rattle.leak_round.specs.Findings.{AreFoundBy, AreRanked, CanFindInTabl
 
 use crate::changes::Change;
 use crate::finding::Finding;
+use crate::kept_seeds::keeps_seeds;
 use crate::round_prefix::RoundPrefix;
 use crate::table_changes::changes_in_round;
 use crate::table_seeds::seeds_and_wrong;
-use crate::untouched::is_untouched;
 use dirty_recompute::PrefixEdit;
 use net_names::{Asn, NoMemory};
 use path_pool::PathPool;
@@ -96,8 +96,8 @@ fn find_with_seeds<P: RoutePolicy, V: OriginStates, L: Ledger>(
     Ok(())
 }
 
-// Finds the changes of the table of a prefix in a round. Where the edit has no bearing on the table it has none, and no
-// AS chooses. The list of ASes is written over.
+// Finds the changes of the table of a prefix in a round. Where the seeds stay and nobody is touched it has none. The list
+// of ASes is written over.
 fn find_change<P: RoutePolicy, V: OriginStates, L: Ledger>(
     finding: &Finding<'_, P, V>,
     at: &RoundPrefix,
@@ -114,7 +114,8 @@ fn find_change<P: RoutePolicy, V: OriginStates, L: Ledger>(
     ensures cut { IsCutOff pool.old pool.new changes.old.items changes.new.items }
     ensures same { AreSame tables.old.items tables.new.items }
 {
-    if is_untouched(finding, at, changes.as_slice()) {
+    let kept = keeps_seeds(finding, at, changes.as_slice());
+    if kept && !finding.touched.has_any(at.prefix) {
         return add_none(finding.alloc, at, changes);
     }
     let seeds = seeds_and_wrong(
@@ -123,6 +124,7 @@ fn find_change<P: RoutePolicy, V: OriginStates, L: Ledger>(
         tables.as_slice(),
         changes.as_slice(),
         pool,
+        kept,
         ases,
     )?;
     let edit = PrefixEdit {

@@ -1,6 +1,6 @@
 //! The seeds of one table after an edit, and the ASes that may hold something wrong there.
 
-ghost use Rattle.std.specs.Prelude.{◌≡◌, ◌≤◌, Some, slice_get, IfOk};
+ghost use Rattle.std.specs.Prelude.{◌≡◌, ◌≤◌, Some, slice_get, IfOk, IsTrue};
 ghost use Rattle.stability_laws.specs.Prelude.{prefixes_of};
 ghost use Rattle.route_choice.specs.declared.seeds.SeedIds.{SeedIds as SomeSeeds};
 ghost use Rattle.route_choice.specs.Prelude.{AreSeedsLive};
@@ -61,13 +61,15 @@ fn seeds_after_edit<P, V>(
 }
 
 // The seeds of a table after the edit, and in the list, in place of what it has, the ASes that are touched for the
-// prefix or had another seed before. Seeds that are kept are not listed again.
+// prefix or had another seed before. Seeds that are kept are not listed again, and where the seeds stay, as `kept` says,
+// they are listed once.
 pub fn seeds_and_wrong<'a, P, V>(
     finding: &Finding<'a, P, V>,
     at: &RoundPrefix,
     tables: &[RoundTables],
     changes: &[Change],
     pool: &PathPool,
+    kept: bool,
     ases: &mut Vec<Asn>,
 ) -> Result<TableSeeds<'a>, NoMemory>
     requires from { 1 ≤ at.now.round }
@@ -76,6 +78,8 @@ pub fn seeds_and_wrong<'a, P, V>(
         AreSeedsLive pool.now seeds }
     requires after { (seeds : SomeSeeds) → AreSeedsAfter finding.now at.now tables.now changes.now seeds →
         AreSeedsLive pool.now seeds }
+    requires kept { IsTrue kept → (seeds : SomeSeeds) → AreSeedsBefore finding.now at.now tables.now seeds →
+        AreSeedsAfter finding.now at.now tables.now changes.now seeds }
     ensures { IfOk result (λ s.
         AreWrongBy finding.now at.now tables.now changes.now pool.now (ids_of s) ases.new.items) }
 {
@@ -97,6 +101,10 @@ pub fn seeds_and_wrong<'a, P, V>(
         at.round,
         at.prefix,
     )?;
+    if kept {
+        finding.touched.put_ases(at.prefix, ases)?;
+        return Ok(TableSeeds::Listed(before));
+    }
     let seeds = seeds_after_edit(finding, at, tables, changes)?;
     put_wrong(
         alloc,

@@ -1,8 +1,8 @@
-use Rattle.std.proofs.Common.{List, sym, subst}
+use Rattle.std.proofs.Common.{List, sym, subst, ◌∙◌}
 use Rattle.route_choice.specs.declared.round_tables.RoundTables.{RoundTables}
-use Rattle.leak_round.specs.Findings.{AreSeedsAfter, AreSeedsBefore, AreWrongBy, IsUntouched}
-use Rattle.leak_round.proofs.NextTables.{next_can, next_found, next_live_after, next_live_before, next_none, next_there}
-use Rattle.leak_round.proofs.Unchanged.{none_cut}
+use Rattle.leak_round.specs.Findings.{AreSeedsAfter, AreSeedsBefore, AreSeedsKept, AreWrongBy}
+use Rattle.leak_round.proofs.NextTables.{next_can, next_found, next_live_after, next_live_before, next_none, next_same, next_there}
+use Rattle.leak_round.proofs.Unchanged.{none_touched}
 use Rattle.leak_round.proofs.round_changes.find_change.Given as given
 use Rattle.leak_round.proofs.round_changes.find_change.Goals as goal
 use Rattle.leak_round.proofs.round_changes.find_change.Goals.{After-as_slice-4}
@@ -43,11 +43,17 @@ returns-clause-found g c =
     let new = c.find_with_seeds.new in
     next_found c.requires c.ids.result.now c.as_slice-4.result.now (wrong g (goal.at.returns-clause-found g c).After-as_slice-4) new.pool new.tables.items new.changes.items new.steps c.find_with_seeds.result now.same now.added now.more now.paid
 
-pub returns-then-is_untouched-clause-found : goal.returns-then-is_untouched-clause-found
-returns-then-is_untouched-clause-found g c =
-    let cs' = c.add_none.new.changes.items in
-    next_none c.requires (subst (IsUntouched c.args.finding.now c.args.at.now) c.as_slice.ensures.value (c.is_untouched.ensures c.if-is_untouched.true)) cs' c.add_none.result c.add_none.ensures.added
+pub seeds_and_wrong-requires-clause-kept : goal.seeds_and_wrong-requires-clause-kept
+seeds_and_wrong-requires-clause-kept g c = λ yes seeds put.
+    let x = c.args.finding.now in
+    let at = c.args.at.now in
+    let kept = subst (AreSeedsKept x at) c.as_slice.ensures.value (c.keeps_seeds-kept.ensures yes) in
+    coe 1 0 (i. AreSeedsAfter x at (c.as_slice-2.ensures.value i) (c.as_slice-3.ensures.value i) seeds)
+    (next_same c.requires kept seeds (subst (λ (ts : List RoundTables). AreSeedsBefore x at ts seeds) c.as_slice-2.ensures.value put))
 
-pub returns-then-is_untouched-clause-cut : goal.returns-then-is_untouched-clause-cut
-returns-then-is_untouched-clause-cut g c =
-    none_cut c.args.pool.now c.args.changes.now.items c.add_none.new.changes.items c.args.at.now.round c.args.at.now.prefix c.add_none.result c.add_none.ensures.added c.add_none.ensures.err
+pub returns-then-not-has_any-clause-found : goal.returns-then-not-has_any-clause-found
+returns-then-not-has_any-clause-found g c =
+    let x = c.args.finding.now in
+    let at = c.args.at.now in
+    let kept = subst (AreSeedsKept x at) c.as_slice.ensures.value (c.keeps_seeds-kept.ensures c.if-kept.true) in
+    next_none c.requires kept (none_touched x.touched.now.pairs.items at.prefix (sym c.has_any.ensures ∙ c.if-not-has_any.true)) c.add_none.new.changes.items c.add_none.result c.add_none.ensures.added

@@ -32,6 +32,14 @@ returns-in-Some-edited_seeds g c =
     wrong_between x.plan.now (seeds_after x.edited.now x.plan.now) x.announced.now (announced_after x.edited.now x.announced.now) c.args.tables.now c.args.changes.now at.round at.prefix (touches x.touched.now at.prefix) c.args.pool.now found.before.now found.seeds.now ases ases refl
     (found.ensures x.announced.now c.args.tables.now c.args.changes.now x.own_seeds c.requires.place x.fresh) c.in_ok-put_wrong.ensures
 
+pub returns-then-kept : goal.returns-then-kept
+returns-then-kept g c =
+    let x = c.args.finding.now in
+    let at = c.args.at.now in
+    let seeds = c.in_ok-before.before in
+    wrong_touched x.plan.now (seeds_after x.edited.now x.plan.now) x.announced.now (announced_after x.edited.now x.announced.now) c.args.tables.now c.args.changes.now at.round at.prefix x.touched.now c.args.pool.now seeds c.put_ases-then-kept.new.ases.items c.in_ok-put_ases-2.ensures
+    (c.in_ok-before.ensures, c.requires.kept c.if-kept.true seeds c.in_ok-before.ensures)
+
 pub put_wrong-requires-2-clause-old : goal.put_wrong-requires-2-clause-old
 put_wrong-requires-2-clause-old g c = c.requires.before c.in_ok-before.before c.in_ok-before.ensures
 

@@ -2,7 +2,7 @@ use Rattle.std.proofs.Common.{length, refl, sym, ◌∙◌}
 use Rattle.std.proofs.lemmas.Bool.{eq-eqb, eqb-true}
 use Rattle.std.proofs.lemmas.Option.{slice_get_read}
 use Rattle.leak_round.proofs.Unchanged.{no_change}
-use Rattle.leak_round.proofs.untouched.is_none_at.Goals as goal
+use Rattle.leak_round.proofs.kept_seeds.is_none_at.Goals as goal
 
 pub returns-then-eq : goal.returns-then-eq
 returns-then-eq c = λ yes. record {

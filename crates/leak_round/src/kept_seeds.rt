@@ -1,7 +1,7 @@
-//! The tables on which an edit has no bearing, so that no look at them is needed.
+//! The tables whose seeds an edit leaves as they are.
 
 ghost use Rattle.std.specs.Prelude.{◌≡◌, ◌⊎◌, ◌-◌, ◌≤◌, IsTrue};
-ghost use Rattle.leak_round.specs.Findings.{IsNoneIn, IsUntouched};
+ghost use Rattle.leak_round.specs.Findings.{AreSeedsKept, IsNoneIn};
 
 use crate::changes::Change;
 use crate::finding::Finding;
@@ -36,13 +36,13 @@ fn is_none_before(changes: &[Change], prefixes: usize, at: &RoundPrefix) -> bool
     is_none_at(changes, changes.len() - prefixes, at.round - 1, at.prefix)
 }
 
-// Whether no announcement is edited, nobody is touched for the prefix of a table, and its table in the round before, if
-// there is one, has no change. Then it has the seeds that it had, and has no change either.
-pub fn is_untouched<P, V>(finding: &Finding<'_, P, V>, at: &RoundPrefix, changes: &[Change]) -> bool
+// Whether no announcement is edited, and the table of the prefix in the round before, if there is one, has no change.
+// Then the seeds of the table stay as they are.
+pub fn keeps_seeds<P, V>(finding: &Finding<'_, P, V>, at: &RoundPrefix, changes: &[Change]) -> bool
     requires { 1 ≤ at.now.round }
-    ensures { IsTrue result → IsUntouched finding.now at.now changes.now }
+    ensures { IsTrue result → AreSeedsKept finding.now at.now changes.now }
 {
-    if finding.edited.is_some() || finding.touched.has_any(at.prefix) {
+    if finding.edited.is_some() {
         return false;
     }
     is_none_before(changes, finding.plan.prefixes().len(), at)
