@@ -1,6 +1,6 @@
 //! Who changes after an edit.
 
-ghost use Rattle.std.specs.Prelude.{◌≡◌, ℕ, ◌+◌, ◌≤◌, None, OnOk, OnErr, IfOk};
+ghost use Rattle.std.specs.Prelude.{◌≡◌, ℕ, ◌+◌, None, OnOk, OnErr, IfOk};
 ghost use Rattle.net_names.specs.Prelude.{occurs};
 ghost use Rattle.as_graph.specs.Prelude.{relation, has};
 ghost use Rattle.path_pool.specs.Pool.{limit_of};
