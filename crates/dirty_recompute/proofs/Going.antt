@@ -1,5 +1,5 @@
 -- What turns leave of the pool, the table and the overlay.
-use Rattle.std.proofs.Common.{◌≡◌, ◌≢◌, ◌⊎◌, inl, inr, ℕ, ◌+◌, ◌≤◌, Bool, true, false, ◌||◌, ◌==◌, true≢false, IsSome, is_some, Option, Some, None, option_map, List, [], ◌∷◌, length, refl, sym, ◌∙◌, subst, arith}
+use Rattle.std.proofs.Common.{◌≡◌, ◌≢◌, ◌⊎◌, inl, inr, ℕ, ◌+◌, ◌≤◌, true, false, ◌==◌, true≢false, IsSome, is_some, Option, Some, None, option_map, List, [], ◌∷◌, length, refl, sym, ◌∙◌, subst, arith}
 use Rattle.std.proofs.lemmas.Bool.{cases_eq, cases_Bool, or_cases, eqb-true}
 use Rattle.net_names.specs.Numbers.{occurs, IsDistinct}
 use Rattle.net_names.proofs.Distinct.{apart_from_distinct}

@@ -11,6 +11,7 @@ pub mod Turning
 pub mod Loops
 pub mod Going
 pub mod Ways
+pub mod ClearLemmas
 pub mod RoomLemmas
 pub mod ChosenLemmas
 pub mod LeftLemmas

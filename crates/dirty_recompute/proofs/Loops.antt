@@ -148,7 +148,8 @@ in_occurs [] b i e = cc
 in_occurs (x ∷ xs) b zero e = let same : x ≡ b = cc in ap (λ t. t || occurs b xs) (eq-eqb x b same)
 in_occurs (x ∷ xs) b (suc i) e = or_right (x == b) _ (in_occurs xs b i e)
 
-occurs_in : (xs : List ℕ) (b : ℕ) → occurs b xs ≡ true → IsIn xs b
+-- what stands in the list is one of its numbers
+pub occurs_in : (xs : List ℕ) (b : ℕ) → occurs b xs ≡ true → IsIn xs b
 occurs_in [] b e = absurd (true≢false (sym e))
 occurs_in (x ∷ xs) b e = by (x == b) refl e (occurs_in xs b)
   where

@@ -19,9 +19,9 @@ use Rattle.dirty_recompute.specs.Resources.{has_change}
 use Rattle.dirty_recompute.specs.Work.{HasGoneDown, CanGoOn, GoesOn}
 
 -- ASes can have turns: there are at most 150,000, all numbers on the seeds' paths are listed if some are, and from some first pool on it can go on
-pub record CanGo {P V : Type 0} (w : RankedWorld P V) (named : Named) (pool : PathPool) (overlay : Overlay) : Type 0 where
+pub record CanGo {P V : Type 0} (w : RankedWorld P V) (numbers : Named) (pool : PathPool) (overlay : Overlay) : Type 0 where
   pub few : as_count w.at.graph.now ≤ MOST_ASES
-  pub named : HasAll named (seeds_of pool w.at.seeds.now)
+  pub named : HasAll numbers (seeds_of pool w.at.seeds.now)
   pub can : (first : PathPool) × CanGoOn (has w.at.graph.now) first pool w.at.seeds.now w.at.table.now overlay
 
 -- what could go on before the turns can go on after them

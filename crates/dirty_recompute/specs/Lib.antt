@@ -11,6 +11,7 @@ pub mod Work
 pub mod Going
 pub mod PlannedRanks
 pub mod Plans
+pub mod Clearing
 pub mod Giving
 pub mod Named
 pub mod Spared

@@ -3,10 +3,12 @@
 //! First upwards by rising rank: an AS takes its seed or the best of its customers' offers. Then downwards
 //! by falling rank, over all offers. Whoever changes makes those of its neighbours choose anew for whom
 //! its new offer may matter. The changes that are left are exact, and the steps are at most two for each
-//! AS that was touched or has a neighbour that changed.
+//! AS that was touched or has a neighbour that changed. Once no AS has a seed, all entries are taken away
+//! without a step.
 #![tactic(auto)]
 
 mod after_step;
+mod clearing;
 mod crowding;
 mod few;
 mod giving;

@@ -1,6 +1,6 @@
 //! Who changes after an edit.
 
-ghost use Rattle.std.specs.Prelude.{◌≡◌, ℕ, ◌+◌, ◌≤◌, None, OnOk, OnErr, IfOk};
+ghost use Rattle.std.specs.Prelude.{◌≡◌, ℕ, ◌+◌, None, OnOk, OnErr, IfOk};
 ghost use Rattle.net_names.specs.Prelude.{occurs};
 ghost use Rattle.as_graph.specs.Prelude.{relation, has};
 ghost use Rattle.path_pool.specs.Pool.{limit_of};
@@ -14,6 +14,7 @@ ghost use Rattle.dirty_recompute.specs.Queues.{waits, HasRanks};
 ghost use Rattle.dirty_recompute.specs.Resources.{has_change, IsKept, IsUndone, SameTable};
 ghost use Rattle.dirty_recompute.specs.Work.{CanGoOn, IsRightBut};
 
+use crate::clearing::{clear_all, holds_any};
 use crate::laws::laws_hold;
 use crate::named::Named;
 use crate::planned_ranks::PlannedRanks;
@@ -27,7 +28,7 @@ use net_names::{Asn, NoMemory};
 use path_pool::PathPool;
 use policy_laws::{OriginStates, RoutePolicy};
 use route_choice::{Overlay, Part, PrefixWorld, Steps, Table, Turn};
-use stability_laws::World;
+use stability_laws::{World, one_stable_routing};
 use std::alloc::Global;
 use std::sync::ledger::Ledger;
 
@@ -153,23 +154,8 @@ fn put_changes<P: RoutePolicy, V: OriginStates, L: Ledger>(
     Ok(())
 }
 
-/// The changes of a table that an edit brings. The world and the seeds are those after the edit, and
-/// `touched` of the edit has the ASes that may hold something else than what is right there: the ends of
-/// an edited link, the AS of an edited policy, and who reads an edited state or has an edited seed. With
-/// the changes in place the table stands for the stable routing, which is the only one, and the overlay
-/// has just the ASes at which the two differ. It takes at most two steps for each AS that is in
-/// `touched` or has a neighbour in the overlay.
-///
-/// The graph has no provider cycle, and the plan is the last one of the ranks and gives its ranks. The
-/// table holds entries only for its ASes and those in `touched`, and is right at all ASes that are not in
-/// `touched`; the seeds stand only at its ASes. The table owns one hold for each of its entries, the
-/// paths of these and of the seeds are live, no count of the pool is above 4,000,000,000, and the pool's
-/// limit leaves two cells for each AS beside the live ones.
-///
-/// The overlay owns one hold for each of its entries, and for each of them at most one cell more is live.
-/// What was live keeps its path, and the table is as before and has room for the changes. Its only
-/// refusal is want of memory, and then the holds are as before, and so is each path that is held.
-pub fn plan_edit<P: RoutePolicy, V: OriginStates, L: Ledger>(
+// The changes by turns of ASes, as `plan_edit` says it.
+fn plan_by_turns<P: RoutePolicy, V: OriginStates, L: Ledger>(
     alloc: Global,
     world: &World<'_, P, V>,
     ranks: &PlannedRanks<'_>,
@@ -203,4 +189,43 @@ pub fn plan_edit<P: RoutePolicy, V: OriginStates, L: Ledger>(
         return Err(NoMemory);
     }
     Ok(overlay)
+}
+
+/// The changes of a table that an edit brings. The world and the seeds are those after the edit, and
+/// `touched` of the edit has the ASes that may hold something else than what is right there: the ends of
+/// an edited link, the AS of an edited policy, and who reads an edited state or has an edited seed. With
+/// the changes in place the table stands for the stable routing, which is the only one, and the overlay
+/// has just the ASes at which the two differ. It takes at most two steps for each AS that is in
+/// `touched` or has a neighbour in the overlay.
+///
+/// The graph has no provider cycle, and the plan is the last one of the ranks and gives its ranks. The
+/// table holds entries only for its ASes and those in `touched`, and is right at all ASes that are not in
+/// `touched`; the seeds stand only at its ASes. The table owns one hold for each of its entries, the
+/// paths of these and of the seeds are live, no count of the pool is above 4,000,000,000, and the pool's
+/// limit leaves two cells for each AS beside the live ones.
+///
+/// The overlay owns one hold for each of its entries, and for each of them at most one cell more is live.
+/// What was live keeps its path, and the table is as before and has room for the changes. Its only
+/// refusal is want of memory, and then the holds are as before, and so is each path that is held.
+pub fn plan_edit<P: RoutePolicy, V: OriginStates, L: Ledger>(
+    alloc: Global,
+    world: &World<'_, P, V>,
+    ranks: &PlannedRanks<'_>,
+    edit: &PrefixEdit<'_>,
+    table: &mut Table,
+    pool: &mut PathPool,
+    steps: &mut Steps<L>,
+) -> Result<Overlay, NoMemory>
+    requires { CanPlan P.meaning V.state_of world.now ranks.now edit.now table.old pool.old }
+    ensures planned { IfOk result (IsPlanned P.meaning V.state_of world.now edit.now table.old table.new
+        pool.old pool.new steps.old steps.new) }
+    ensures table { SameTable table.old table.new }
+    ensures limit { limit_of pool.new ≡ limit_of pool.old }
+    ensures err { OnErr result (IsUndone pool.old pool.new) }
+{
+    if edit.seeds.ases().is_empty() && holds_any(table, edit.touched) {
+        one_stable_routing::<P>();
+        return clear_all(alloc, world.graph, edit.touched, table);
+    }
+    plan_by_turns(alloc, world, ranks, edit, table, pool, steps)
 }

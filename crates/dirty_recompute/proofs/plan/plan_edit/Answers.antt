@@ -1,59 +1,36 @@
-use Rattle.std.proofs.Common.{◌≡◌, false, true≢false, Result, Ok, Err, refl, sym, ◌∙◌, subst, arith, rules}
-use Rattle.std.specs.Prelude.{is_err, OnOk}
-use Rattle.stability_laws.specs.World.{setting_in}
-use Rattle.route_choice.specs.Routings.{routing_of, seeds_of, table_routing}
-use Rattle.route_choice.specs.Tables.{prefix_of}
-use Rattle.dirty_recompute.specs.Exact.{IsExact}
-use Rattle.dirty_recompute.proofs.RankLemmas.{they_fall}
-use Rattle.dirty_recompute.specs.Resources.{has_change, SameTable}
-use Rattle.dirty_recompute.proofs.Going.{can_start, few_new_cells, same_routing, seeds_same, table_same, undone}
+use Rattle.std.proofs.Common.{◌≡◌, Result, Ok, Err, length, sym, ◌∙◌, arith}
+use Rattle.std.specs.Prelude.{IfOk}
+use Rattle.std.proofs.lemmas.Bool.{eqb-true}
+use Rattle.std.proofs.lemmas.List.{nil_from_length}
+use Rattle.net_names.specs.Numbers.{occurs}
+use Rattle.as_graph.specs.Topology.{relation}
+use Rattle.route_choice.proofs.Room.{keeps_itself}
+use Rattle.route_choice.specs.declared.overlay.Overlay.{Overlay}
+use Rattle.route_choice.specs.Routings.{seeds_of}
+use Rattle.route_choice.specs.Tables.{prefix_of, HasRoomForChanges}
+use Rattle.dirty_recompute.specs.Clearing.{IsCleared}
+use Rattle.dirty_recompute.specs.Plans.{IsPlanned}
+use Rattle.dirty_recompute.specs.Resources.{has_change}
+use Rattle.dirty_recompute.proofs.ClearLemmas.{cleared_exact, no_cells, no_steps, seeds_none}
 use Rattle.dirty_recompute.proofs.plan.plan_edit.Goals as goal
-use Rattle.dirty_recompute.proofs.plan.plan_edit.Goals.{then-is_err-via-then-is_err, then-is_err-via-else-is_err+then-is_err-2}
 
--- a call that gave no error ensures what it ensures on success
-not_err : {A E P : Type 0} (r : Result A E) → is_err r ≡ false → OnOk r P → P
-not_err (Ok x) e h = h
-not_err (Err x) e h = absurd (true≢false e)
-
-pub invariant_of-ranked : goal.invariant_of-ranked
-invariant_of-ranked g c = record {
-  no_cycle = c.requires.no_cycle;
-  falls = they_fall _ c.args.world.now.graph.now c.ranks_fit.ensures c.requires.no_cycle c.requires.ranks;
-  seeds = c.requires.seeds;
-}
-
-pub put_changes-put-requires-clause-can : goal.put_changes-put-requires-clause-can
-put_changes-put-requires-clause-can g c = can_start c.args.world.now.graph.now c.args.edit.now.seeds.now c.args.table.now c.args.pool.now c.new-overlay.result c.requires.counts c.requires.held c.new-overlay.ensures.uses c.requires.entries_live c.requires.seeds_live
-
-pub undo-requires : goal.undo-requires
-undo-requires g c = λ k. omega (arith, c.put_changes-put.ensures.kept.holds k, c.new-overlay.ensures.uses k)
-
-pub returns-then-is_err-clause-table : goal.returns-then-is_err-clause-table
-returns-then-is_err-clause-table g c =
-    elim c.then-is_err.branch [
-      | then-is_err-via-then-is_err w ↦ subst (SameTable c.args.table.now) (sym w.table-is) (record { prefix = refl; entries = λ a. refl; uses = λ k. refl })
-      | then-is_err-via-else-is_err+then-is_err-2 w ↦ subst (SameTable c.args.table.now) (sym w.table-is) (record { prefix = w.room_for.ensures.prefix; entries = w.room_for.ensures.same; uses = w.room_for.ensures.uses })
-    ]
-
-pub returns-then-is_err-clause-err : goal.returns-then-is_err-clause-err
-returns-then-is_err-clause-err g c =
-    undone c.args.pool.now c.put_changes-put.new.pool c.undo.new.pool c.args.edit.now.seeds.now c.new-overlay.result c.put_changes-put.new.overlay c.new-overlay.ensures.uses c.put_changes-put.ensures.kept c.undo.ensures.holds c.undo.ensures.back
-
-pub returns-clause-planned : goal.returns-clause-planned
-returns-clause-planned g c =
-    let here = setting_in g.P.RoutePolicy.meaning g.V.OriginStates.state_of c.args.world.now (prefix_of c.args.table.now) in
-    let seeds = c.args.edit.now.seeds.now in let table = c.args.table.now in
-    let pool = c.args.pool.now in let pool' = c.put_changes-put.new.pool in let overlay = c.put_changes-put.new.overlay in
-    let put = c.put_changes-put.ensures in
-    let good : is_err c.put_changes-put.result ≡ false = sym c.is_err.ensures.value ∙ c.if-is_err.false in
-    let same_seeds : seeds_of pool seeds ≡ seeds_of pool' seeds = seeds_same pool pool' seeds put.kept.keeps in
-    let same_table : table_routing pool table ≡ table_routing pool' table = table_same pool pool' seeds table put.kept.keeps c.requires.entries_live in
-    let roomed : routing_of pool' c.room_for.new.self overlay ≡ routing_of pool' table overlay = sym (same_routing pool' table c.room_for.new.self overlay c.room_for.ensures.same) in
-    record {
-      exact = coe 1 0 (i. IsExact here (same_seeds i) (same_table i) (roomed i) (has_change overlay)) (not_err c.put_changes-put.result good put.exact);
-      enough = not_err c.put_changes-put.result good put.enough;
-      spare = search rules;
-      holds = λ k. omega (arith, put.kept.holds k, c.new-overlay.ensures.uses k);
-      cells = few_new_cells c.args.world.now.graph.now seeds table pool pool' overlay (not_err c.put_changes-put.result good put.can);
-      kept = put.kept.keeps;
-    }
+pub returns-then-holds_any-clause-planned : goal.returns-then-holds_any-clause-planned
+returns-then-holds_any-clause-planned g c = by c.clear_all.result c.clear_all.ensures.cleared c.clear_all.ensures.spare
+  where
+    by : {E : Type 0} (r : Result Overlay E) → IfOk r (IsCleared c.args.table.now) → IfOk r (HasRoomForChanges c.clear_all.new.table) →
+        IfOk r (IsPlanned g.P.RoutePolicy.meaning g.V.OriginStates.state_of c.args.world.now c.args.edit.now c.args.table.now c.clear_all.new.table c.args.pool.now c.args.pool.now c.args.steps.now c.args.steps.now)
+    by (Err e) cleared spare = cleared
+    by (Ok o) cleared spare =
+        let world = c.args.world.now in
+        let seeds = c.args.edit.now.seeds.now in
+        let pool = c.args.pool.now in
+        let none : length c.ases.result.now ≡ 0 = eqb-true _ _ (sym c.is_empty.ensures ∙ c.if-is_empty.true) in
+        record {
+          exact = cleared_exact g.P.RoutePolicy.meaning c.one_stable_routing.ensures world.graph.now world.book.now (g.V.OriginStates.state_of world.states.now (prefix_of c.args.table.now)) (seeds_of pool seeds) c.requires.no_cycle
+              (seeds_none pool seeds c.ases.result.now c.ases.ensures (nil_from_length c.ases.result.now none)) pool c.args.table.now c.clear_all.new.table o cleared c.clear_all.ensures.table.entries;
+          enough = no_steps (relation world.graph.now) (λ b. occurs b c.args.edit.now.touched.now) (has_change o) c.args.steps.now;
+          spare = spare;
+          holds = λ k. omega (arith, cleared.takes.uses k);
+          cells = no_cells pool o;
+          kept = keeps_itself pool seeds;
+        }

@@ -14,9 +14,9 @@ plan_edit-requires g c =
     let at = c.args.at.now in
     let seeds = seeds_of at.pool at.seeds in
     record {
-      no_cycle = search rules;
-      last = search rules;
-      ranks = search rules;
+      no_cycle = c.planned_ranks-ranks.ensures.no_cycle;
+      last = c.planned_ranks-ranks.ensures.last;
+      ranks = c.planned_ranks-ranks.ensures.after;
       entries = λ b none free.
           let apart = neither c.args.ends.0 c.args.ends.1 b free in
           let stood : has was b ≡ false = still_has c.ases_are_kept.ensures was c.unlink.new.self c.args.ends.0 c.args.ends.1 b false c.in-Ok.ensures.ok apart.0 apart.1 none in
@@ -30,5 +30,5 @@ plan_edit-requires g c =
       entries_live = c.requires.settled.entries_live;
       held = c.requires.settled.held;
       counts = λ k. omega (arith, c.requires.settled.few k);
-      room = search (arith, rules);
+      room = search rules;
     }
