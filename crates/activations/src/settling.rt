@@ -96,7 +96,8 @@ impl<'a> Settled<'a> {
     /// sought at a place.
     pub(crate) fn renew(&mut self, graph: &Graph, asn: Asn, place: usize, changed: bool)
         ensures rows { self.new.rows.now ≡ self.old.rows.now }
-        ensures marks { IsRenewed (relation graph.now) asn changed self.old.rows.now self.old.marks.items self.new.marks.items }
+        ensures marks { IsRenewed (relation graph.now) asn changed self.old.rows.now
+            self.old.marks.items self.new.marks.items }
     {
         if !changed {
             put_mark(self.rows, &mut self.marks, asn, place);
