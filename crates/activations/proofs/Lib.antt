@@ -2,6 +2,8 @@ mod Greedy
 mod Marks
 mod Counting
 mod Runs
+mod AfterTurns
+mod Placing
 mod Heights
 mod Words
 pub mod Sound

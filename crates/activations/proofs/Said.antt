@@ -8,7 +8,7 @@ use Rattle.std.specs.Cmp.{nat_cmp_total, nat_eq_equiv, unsigned_tied}
 use Rattle.std.specs.FinMap as map
 use Rattle.std.specs.FinMap.{nat_cmp-IsAntisymmetric}
 use Rattle.std.specs.FinMap.Entries.{is_some-find}
-use Rattle.std.proofs.lemmas.Bool.{true≢false}
+use Rattle.std.proofs.lemmas.Bool.{or_parts}
 use Rattle.std.proofs.lemmas.Bool.Decides.{nat_tests}
 use Rattle.std.proofs.lemmas.Grind.{flat_map-append}
 use Rattle.std.proofs.lemmas.List.Folds.{list_any-append}
@@ -21,6 +21,7 @@ use Rattle.net_names.specs.Steps.{option_filter}
 use Rattle.net_names.specs.Texts.{after, asn_of, cut_at, fields}
 use Rattle.net_names.proofs.Distinct.{apart_from_distinct, distinct_from_apart}
 use Rattle.net_names.proofs.Cuts.{fields_cut, fields_uncut}
+use Rattle.net_names.proofs.Shared.{none_from}
 use Rattle.net_names.specs.Trials.{◌>>=◌}
 use Rattle.scenario_text.proofs.FileLines.{begun}
 use Rattle.stability_laws.specs.declared.entry.Entry.{Entry}
@@ -108,10 +109,6 @@ acts_ok : (b : Bool) (x t : Acts) (n : ℕ) → (if b then Err (TooMany n) else 
 acts_ok true x t n h = absurd cc
 acts_ok false x t n h = (refl, cc)
 
-none_is : {X : Type 0} (o : Option X) → is_some o ≡ false → o ≡ None
-none_is None h = refl
-none_is (Some x) h = absurd (true≢false h)
-
 -- lines behind the first of this number, which names these: what they say, and that after an activation the list isn't empty
 record Open (n : ℕ) (names : ℕ × PrefixValue) (lines : List (ℕ × List ℕ)) (s : Acts) : Type 0 where
   pub said : AreSaid lines s
@@ -175,7 +172,7 @@ module _ (n : ℕ) (names : ℕ × PrefixValue) (lines : List (ℕ × List ℕ))
           once = subst IsDistinct (sym (map-append (λ h. h.1.0) old.holds (h ∷ []))) (distinct_push (each (λ h. h.1.0) old.holds) hold.0 old.once (new_key old.holds hold.0 free));
           few = old.few;
           held = ap (λ m. map.insert m hold.0 hold.1) old.held
-              ∙ sym (map.from_entries_push nat_cmp_total nat_cmp-IsAntisymmetric (each (λ h. h.1) old.holds) hold.0 hold.1 (none_is _ (found_none old.holds hold.0 free)))
+              ∙ sym (map.from_entries_push nat_cmp_total nat_cmp-IsAntisymmetric (each (λ h. h.1) old.holds) hold.0 hold.1 (none_from _ (found_none old.holds hold.0 free)))
               ∙ ap map.from_entries (sym (map-append (λ h. h.1) old.holds (h ∷ [])));
           list = old.list ∙ ap (flat_map (λ r. r.1)) none;
           named = ap (λ t. t ++ (l.0, hold.0) ∷ []) (old.named ∙ ap (λ r. each (λ h. (h.0, h.1.0)) old.holds ++ flat_map run_named r) none ∙ append-nil (each (λ h. (h.0, h.1.0)) old.holds))
@@ -234,19 +231,15 @@ all_said n names lines (l ∷ more) s t o ok = by (with_line s l) refl ok (λ u 
 
 -- ---- back: what is said is read
 
-neither : (a b : Bool) → (a || b) ≡ false → (a ≡ false) × (b ≡ false)
-neither true b h = absurd cc
-neither false b h = (refl, h)
-
 apart_before : (xs : List ℕ) (a : ℕ) (ys : List ℕ) → IsDistinct (xs ++ a ∷ ys) → occurs a xs ≡ false
 apart_before [] a ys d = refl
 apart_before (x ∷ xs) a ys d =
-    let later = neither (occurs x xs) (occurs x (a ∷ ys)) (sym (list_any-append (λ (y : ℕ). y == x) xs (a ∷ ys)) ∙ d.0) in
-    ap (λ b. b || occurs a xs) (nat_eq_equiv.symm x a ∙ (neither (a == x) (occurs x ys) later.1).0) ∙ apart_before xs a ys d.1
+    let later = or_parts (occurs x xs) (occurs x (a ∷ ys)) (sym (list_any-append (λ (y : ℕ). y == x) xs (a ∷ ys)) ∙ d.0) in
+    ap (λ b. b || occurs a xs) (nat_eq_equiv.symm x a ∙ (or_parts (a == x) (occurs x ys) later.1).0) ∙ apart_before xs a ys d.1
 
 not_found : (done : List (ℕ × Entry)) (a : ℕ) → occurs a (each (λ e. e.0) done) ≡ false → map.find nat_cmp a done ≡ None
 not_found done a apart =
-    none_is (map.find nat_cmp a done) (is_some-find nat_cmp a done ∙ (λ i. list_any (λ y. (unsigned_tied a y ∙ nat_eq_equiv.symm a y) i) (each (λ e. e.0) done)) ∙ apart)
+    none_from (map.find nat_cmp a done) (is_some-find nat_cmp a done ∙ (λ i. list_any (λ y. (unsigned_tied a y ∙ nat_eq_equiv.symm a y) i) (each (λ e. e.0) done)) ∙ apart)
 
 taken : (b c : Bool) (u : Acts) (n : ℕ) → b ≡ false → c ≡ false → (if b then Err (Unreadable n) else (if c then Err (Twice n) else Ok u)) ≡ Ok u
 taken b c u n no_list no_hold = rw (no_list, no_hold) refl

@@ -11,6 +11,7 @@ mod laws;
 mod pieces;
 mod reading;
 mod running;
+mod settling;
 
 pub use acts::{Acts, NamedAses};
 pub use height::height_of;

@@ -5,15 +5,13 @@ use Rattle.std.specs.BTreeMap.{get, is_at}
 use Rattle.std.specs.Ordering.{nat_cmp}
 use Rattle.std.specs.Cmp.{nat_cmp_total}
 use Rattle.std.specs.FinMap.{nat_cmp-IsAntisymmetric}
+use Rattle.std.proofs.lemmas.Option.{same_Some}
 use Rattle.stability_laws.proofs.KeyLists.{eq_is}
 use Rattle.net_names.specs.Numbers.{occurs}
 use Rattle.stability_laws.specs.declared.entry.Entry.{Entry}
 use Rattle.table_check.specs.declared.long_paths.LongPaths.{LongPaths}
 use Rattle.table_check.specs.declared.numbers.Numbers.{Numbers}
 use Rattle.table_check.specs.Numbers.{AreNumbers}
-
-some_is : (e f : Entry) → ◌≡◌ {A = Option Entry} (Some e) (Some f) → e ≡ f
-some_is e f h = cc
 
 same_number : (a n : ℕ) → is_at (nat_cmp a) n ≡ true → n ≡ a
 same_number a n e = sym (eq_is nat_cmp_total nat_cmp-IsAntisymmetric a n e)
@@ -29,7 +27,7 @@ one_path_more held old new asn s e put holds are before n t there f fits =
     by false h k = before n t k f fits
     by true h k =
         let is : s ≡ t = cc k in
-        let path : e ≡ f = some_is e f (sym holds ∙ ap held (sym (h cc)) ∙ fits) in
+        let path : e ≡ f = same_Some e f (sym holds ∙ ap held (sym (h cc)) ∙ fits) in
         subst (λ (u : Numbers). (a : ℕ) → occurs a u.sorted.items ≡ occurs a f.path) is (subst (λ (g : Entry). (a : ℕ) → occurs a s.sorted.items ≡ occurs a g.path) path are)
 
 -- what is found at an AS

@@ -7,7 +7,7 @@ use Rattle.std.specs.Cmp.Lexicographic.{pointwise}
 use Rattle.std.specs.List.{AllByRecursion, list_all}
 use Rattle.std.specs.Option.{is_some, option_map_or, option_zip, some_prefix}
 use Rattle.std.specs.Str.Lines.{strip_carriage_return}
-use Rattle.std.proofs.lemmas.Bool.{and_parts, ne_eqb}
+use Rattle.std.proofs.lemmas.Bool.{and_parts, ne_eqb, not-true}
 use Rattle.std.proofs.lemmas.List.Splits.{slice_split_none, slice_split_at}
 use Rattle.net_names.specs.declared.routes.Class.{Class}
 use Rattle.net_names.specs.declared.routes.Class.TheVariants.{Origin, Customer, Peer, Provider}
@@ -21,7 +21,7 @@ use Rattle.stability_laws.specs.EntryTexts.{entry_text}
 use Rattle.stability_laws.specs.declared.entry.Entry.{Entry}
 use Rattle.table_check.specs.Forms.{numbers_of, row_of, way_of}
 use Rattle.table_check.specs.Printed.{IsAsn, IsPrintable, IsRow}
-use Rattle.table_check.proofs.Freely.{lacks, lacks_joined, lacks_all, decimal_digits, decimal_some, decimal_lacks, uncut, digit_not, not_true}
+use Rattle.table_check.proofs.Freely.{lacks, lacks_joined, lacks_all, decimal_digits, decimal_some, decimal_lacks, uncut, digit_not}
 
 number_fields : (n : ℕ) (ns : List ℕ) → AllByRecursion IsAsn (n ∷ ns) → fields 32 (numbers_text (n ∷ ns)) ≡ each decimal (n ∷ ns)
 number_fields n [] a = slice_split_none (λ b. b == 32) (decimal n) (lacks_all 32 (decimal n) (decimal_lacks 32 n refl a.0.1))
@@ -115,7 +115,7 @@ begins [] rest some digits = absurd (omega arith)
 begins (c ∷ cs) rest some digits =
     let d = (and_parts (is_digit c 10) (list_all (λ x. is_digit x 10) cs) digits).0 in
     let f : (102 == c) ≡ false = digit_after 102 c d refl in
-    let s : (c == 35) ≡ false = not_true (c == 35) (digit_not c 35 d refl) in
+    let s : (c == 35) ≡ false = not-true (c == 35) (digit_not c 35 d refl) in
     ((λ i. then_some (f i && pointwise (λ x y. x == y) (codes "or ") (take 3 (cs ++ rest))) (drop 3 (cs ++ rest))), s)
 
 -- a row is no `for` line

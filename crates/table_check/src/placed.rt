@@ -110,7 +110,8 @@ fn put_path(
     asn: Asn,
     long: &mut LongPaths,
 ) -> Result<(), NoMemory>
-    ensures { OnOk result (AreNumbers (held_by table.now round) long.old → AreNumbers (held_by table.now round) long.new) }
+    ensures { OnOk result (AreNumbers (held_by table.now round) long.old →
+        AreNumbers (held_by table.now round) long.new) }
 {
     match table.held(round, asn) {
         Some(entry) => long.put(alloc, asn, entry.path.as_slice()),

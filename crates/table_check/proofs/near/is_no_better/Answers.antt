@@ -1,4 +1,5 @@
 use Rattle.std.proofs.Common.{◌≡◌, Option, Some, sym, ap, subst, ◌∙◌}
+use Rattle.std.proofs.lemmas.Bool.{not-true}
 use Rattle.net_names.specs.declared.routes.State.TheVariants.{NotFound}
 use Rattle.net_names.specs.Links.{converse}
 use Rattle.policy_laws.specs.declared.policy.View.{View}
@@ -7,7 +8,6 @@ use Rattle.stability_laws.specs.BestView.{better_of}
 use Rattle.stability_laws.specs.Offers.{marked, offer_given, view_of}
 use Rattle.table_check.specs.declared.placed.Brief.{Brief}
 use Rattle.table_check.proofs.Behind.{seen, stays}
-use Rattle.table_check.proofs.Freely.{not_true}
 use Rattle.table_check.proofs.near.is_no_better.Goals as goal
 
 pub returns : goal.returns
@@ -23,5 +23,5 @@ returns g c = λ no state a e is.
     let unread : own.before (shown c.args.brief) old ≡ own.before (view_of sender.marks state n from e) old =
     ap (λ b. own.before (shown b) old) (sym is) ∙ (g.met.P.RoutePolicy.ignores_state c.args.own.now).before (sym c.reads_state.ensures ∙ c.if-reads_state.false) (view_of sender.marks state n from e) old NotFound old.state in
     let stay : Some old ≡ better_of own (Some old) (seen (offer_given sender own state n a (Some from) (Some e))) =
-    stays own sender own state n a from e old (sym unread ∙ sym asked ∙ not_true c.before-2.result no) in
+    stays own sender own state n a from e old (sym unread ∙ sym asked ∙ not-true c.before-2.result no) in
     subst (λ (o : Option View). o ≡ better_of own o (seen (offer_given sender own state n a (Some from) (Some e)))) (sym c.in-Some.is) stay
