@@ -119,12 +119,8 @@ struct Gathered<'a> {
     left: &'a [u8],
 }
 
-<<<<<<< HEAD
-// The payloads of the rows of a text up to one that has a quote, or fewer than three fields, or no line feed behind it.
-=======
-/// The payloads of the rows of a text up to one that has a quote, or fewer than three fields, or a carriage return alone
-/// behind it.
->>>>>>> 2699ac064200c6c4bf13b62f528991eec6109377
+// The payloads of the rows of a text up to one that has a quote, or fewer than three fields, or a carriage return alone
+// behind it.
 fn gather_lines<'a>(alloc: Global, bytes: &[u8], text: &'a [u8]) -> Result<Gathered<'a>, Stop>
     requires { BeginsRows bytes.now text.now }
     ensures ok { IfOk result (λ g. IsAtLine g.left.now bytes.now g.row g.vrps.items) }

@@ -46,15 +46,9 @@ pub(crate) fn behind(text: &[u8], byte: u8) -> Option<&[u8]>
     Some(&text[1..])
 }
 
-<<<<<<< HEAD
 // The text up to where its first field ends, and the text from there on.
-fn split_field(text: &[u8]) -> Option<(&[u8], &[u8])>
-    ensures { IfSome result (λ p. SplitsField text.now p.0.now p.1.now) }
-=======
-/// The text up to where its first field ends, and the text from there on.
 fn split_field(text: &[u8]) -> (&[u8], &[u8])
     ensures { SplitsField text.now result.0.now result.1.now }
->>>>>>> 2699ac064200c6c4bf13b62f528991eec6109377
 {
     match find_field_stop(text) {
         Some(at) => (&text[..at], &text[at..]),
@@ -62,11 +56,7 @@ fn split_field(text: &[u8]) -> (&[u8], &[u8])
     }
 }
 
-<<<<<<< HEAD
-// The text from the line feed on that ends its first line, where the line has no quote.
-=======
-/// The text from the line feed on that ends its first line, or nothing where the text ends the line. The line has no quote.
->>>>>>> 2699ac064200c6c4bf13b62f528991eec6109377
+// The text from the line feed on that ends its first line, or nothing where the text ends the line. The line has no quote.
 fn end_line(text: &[u8]) -> Option<&[u8]>
     ensures { IfSome result (λ rest. EndsLine text.now rest.now) }
 {
