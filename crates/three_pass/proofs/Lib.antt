@@ -13,3 +13,4 @@ pub mod Elements
 pub mod Noted
 pub mod Chains
 pub mod Marking
+pub mod Passings
