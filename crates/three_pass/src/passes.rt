@@ -4,10 +4,13 @@ ghost use Rattle.std.specs.Prelude.{◌≡◌, ◌≢◌, ℕ, true, false, Some
 ghost use Rattle.net_names.specs.Prelude.{occurs};
 ghost use Rattle.net_names.specs.declared.routes.Rel.{Rel as ARel};
 ghost use Rattle.net_names.specs.declared.routes.Rel.TheVariants.{Customer};
+ghost use Rattle.policy_laws.specs.declared.policy.Stance.TheVariants.{Nothing, Plain};
+ghost use Rattle.policy_laws.specs.Prelude.{IsOf};
 ghost use Rattle.as_graph.specs.Prelude.{relation, asns};
 ghost use Rattle.stability_laws.specs.Prelude.{IsStable};
 ghost use Rattle.route_choice.specs.Prelude.{joined, setting_at, AreGiversAt, HasLoopsFromAt, IsStepOf, routing_of, seeds_of, CanStep, is_among, is_named, AreNamed};
 ghost use Rattle.three_pass.specs.Lists.{count_of, list_at};
+ghost use Rattle.three_pass.specs.Origins.{AreHeldOf, AreSeedsOf};
 ghost use Rattle.three_pass.specs.Passings.{CanPass, HasPassed, IsPassing, IsReady, IsVisitIn, order_of, routing_in, seeds_in};
 ghost use Rattle.three_pass.specs.Progress.{AfterUp};
 ghost use Rattle.three_pass.specs.Telling.{HaveTold, TellsOn};
@@ -20,7 +23,7 @@ use crate::told::{Told, holds};
 use as_graph::Neighbour;
 use net_names::{Asn, place_at};
 use path_pool::PathPool;
-use policy_laws::{OriginStates, RoutePolicy};
+use policy_laws::{OriginStates, RoutePolicy, Stance};
 use route_choice::{
     NamedSet, Overlay, Part, PlacedAs, Steps, Turn, may_loop_among, visit, visit_among,
     visit_providers,
@@ -50,24 +53,39 @@ fn gather(course: &Course, place: usize, told: &Told, asn: Asn, looks: &mut Look
         && told.put_tellers(asn, place, looks)
 }
 
-// Whether a place is marked.
-fn is_marked_at(marks: &[bool], place: usize) -> bool
-    ensures { result ≡ true → slice_get marks.now place ≡ Some true }
+// Whether an AS is not named, and by the stance at its place takes no offer.
+#[inline(always)]
+fn takes_none(stances: &[Stance], named: bool, place: usize) -> bool
+    ensures { result ≡ true → (named ≡ false) × (slice_get stances.now place ≡ Some Nothing) }
 {
-    match marks.get(place) {
-        Some(mark) => *mark,
-        None => false,
+    if named {
+        return false;
+    }
+    match stances.get(place) {
+        Some(Stance::Nothing) => true,
+        _ => false,
     }
 }
 
-// Whether an AS is not named and was told nothing, and its place is marked.
+// Whether the stance at a place is plain.
 #[inline(always)]
-fn is_plainly_untold(told: &Told, marks: &[bool], named: bool, asn: Asn, place: usize) -> bool
+fn is_plain_at(stances: &[Stance], place: usize) -> bool
+    ensures { result ≡ true → slice_get stances.now place ≡ Some Plain }
+{
+    match stances.get(place) {
+        Some(Stance::Plain) => true,
+        _ => false,
+    }
+}
+
+// Whether an AS is not named and was told nothing, and the stance at its place is plain.
+#[inline(always)]
+fn is_plainly_untold(told: &Told, stances: &[Stance], named: bool, asn: Asn, place: usize) -> bool
     ensures unnamed { result ≡ true → named ≡ false }
-    ensures marked { result ≡ true → slice_get marks.now place ≡ Some true }
+    ensures plain { result ≡ true → slice_get stances.now place ≡ Some Plain }
     ensures untold { result ≡ true → (b : ℕ) → ¬ IsTold told.now asn b }
 {
-    !named && is_marked_at(marks, place) && told.is_untold(asn, place)
+    !named && is_plain_at(stances, place) && told.is_untold(asn, place)
 }
 
 impl<P: RoutePolicy, V: OriginStates> Passing<'_, '_, P, V> {
@@ -175,7 +193,7 @@ impl<P: RoutePolicy, V: OriginStates> Passing<'_, '_, P, V> {
     }
 
     // The step upwards of the AS at a place of the order, which tells its peers and its providers if it holds
-    // something then. An AS that has no seed, and was told nothing, takes none.
+    // something then. An AS that has no seed, and was told nothing or takes no offer, takes none.
     #[inline(always)]
     fn step_up<L: Ledger>(
         &self,
@@ -201,6 +219,10 @@ impl<P: RoutePolicy, V: OriginStates> Passing<'_, '_, P, V> {
         if has_none_to_take(&gathered.told, &self.named, placed.asn, placed.place) {
             return;
         }
+        let may_loop = self.named.has(placed.asn);
+        if takes_none(self.stances, may_loop, placed.place) {
+            return;
+        }
         self.step_and_tell(gathered, pool, overlay, placed, steps);
     }
 
@@ -215,12 +237,16 @@ impl<P: RoutePolicy, V: OriginStates> Passing<'_, '_, P, V> {
     )
         requires passing { IsPassing P.meaning self.now }
         requires empty { (a : ℕ) → joined self.now.at.table.now overlay.old a ≡ None }
+        requires seeded { AreSeedsOf (IsOf self.now.all) (setting_at P.meaning V.state_of self.now.at).state
+            (seeds_in self.now pool.old) }
         requires named { AreNamed (is_named self.now.named) (seeds_in self.now pool.old) }
         requires true_notes { AreTrue (relation self.now.at.graph.now) gathered.old.told }
         requires room { CanPass self.now pool.old overlay.old }
         ensures cost { steps.new ≤ steps.old + length (order_of self.now) }
         ensures done { AfterUp (setting_at P.meaning V.state_of self.now.at) (seeds_in self.now pool.old)
             (order_of self.now) (routing_in self.now pool.new overlay.new) }
+        ensures origins { AreHeldOf (IsOf self.now.all) (setting_at P.meaning V.state_of self.now.at).state
+            (routing_in self.now pool.new overlay.new) }
         ensures told { (b n : ℕ) (r : ARel) → occurs b (order_of self.now) ≡ true →
             routing_in self.now pool.new overlay.new b ≢ None → relation self.now.at.graph.now b n ≡ Some r →
             r ≢ Customer → IsTold gathered.new.told n b }
@@ -236,7 +262,7 @@ impl<P: RoutePolicy, V: OriginStates> Passing<'_, '_, P, V> {
     }
 
     // The step downwards of the AS at a place of the order. An AS that holds something, and is right with it,
-    // takes none.
+    // takes none, and so does one that has no seed and takes no offer.
     fn step_down<L: Ledger>(
         &self,
         gathered: &mut Gathered<'_>,
@@ -261,10 +287,13 @@ impl<P: RoutePolicy, V: OriginStates> Passing<'_, '_, P, V> {
             return false;
         }
         let may_loop = self.named.has(asn);
-        if is_plainly_untold(&gathered.told, self.plain, may_loop, asn, place) {
+        if is_plainly_untold(&gathered.told, self.stances, may_loop, asn, place) {
             let above = self.course.above.list(place);
             let above_places = self.course.above.places(place);
             return visit_providers(&self.at, pool, overlay, placed, above, above_places, steps);
+        }
+        if takes_none(self.stances, may_loop, place) {
+            return false;
         }
         let turn = Turn {
             asn,
@@ -289,6 +318,10 @@ impl<P: RoutePolicy, V: OriginStates> Passing<'_, '_, P, V> {
         requires told { (a : ℕ) → HaveTold (IsTold gathered.old.told) (setting_at P.meaning V.state_of self.now.at)
             (routing_in self.now pool.old overlay.old) a }
         requires named { AreNamed (is_named self.now.named) (seeds_in self.now pool.old) }
+        requires origins { AreHeldOf (IsOf self.now.all) (setting_at P.meaning V.state_of self.now.at).state
+            (routing_in self.now pool.old overlay.old) }
+        requires seeded { AreSeedsOf (IsOf self.now.all) (setting_at P.meaning V.state_of self.now.at).state
+            (seeds_in self.now pool.old) }
         requires up { AfterUp (setting_at P.meaning V.state_of self.now.at) (seeds_in self.now pool.old)
             (order_of self.now) (routing_in self.now pool.old overlay.old) }
         requires room { CanPass self.now pool.old overlay.old }

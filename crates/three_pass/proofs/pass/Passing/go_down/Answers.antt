@@ -2,6 +2,7 @@ use Rattle.std.proofs.Common.{arith, true, refl, ◌≡◌, ℕ, ◌+◌, ◌-�
 use Rattle.std.proofs.lemmas.List.{get_or_read, take_all}
 use Rattle.net_names.specs.Numbers.{occurs}
 use Rattle.as_graph.specs.Topology.{relation}
+use Rattle.policy_laws.specs.Plain.{IsOf}
 use Rattle.stability_laws.specs.Steps.{IsStepWhole}
 use Rattle.route_choice.specs.declared.choice.Part.TheVariants.{Whole}
 use Rattle.route_choice.specs.Routings.{routing_of, seeds_of}
@@ -10,6 +11,7 @@ use Rattle.route_choice.specs.NamedSets.{is_named}
 use Rattle.three_pass.specs.Progress.{AfterWhole}
 use Rattle.three_pass.proofs.ByRank.{by_rank, stands_at, is_listed, is_reached}
 use Rattle.three_pass.proofs.InOrder.{turn, down_same, down_more, down_fresh, loops_downwards, all_right}
+use Rattle.three_pass.proofs.Origins.{held_of}
 use Rattle.three_pass.specs.Told.{AreTrue, IsTold}
 use Rattle.three_pass.specs.Telling.{HaveTold}
 use Rattle.three_pass.proofs.Quiet.{still_told}
@@ -53,6 +55,7 @@ step_down-requires-clause-ready g c =
       can = can_step c.loop-left.pool c.args.self.now.at.seeds.now c.args.self.now.at.table.now c.loop-left.overlay xs c.loop-left.invariant.room (omega (arith, left, c.loop-left.invariant.within));
       true_notes = subst (AreTrue (relation c.args.self.now.at.graph.now)) (sym c.loop-left.invariant.same) c.requires.true_notes;
       told = subst (λ t. HaveTold (IsTold t) here f a) (sym c.loop-left.invariant.same) (c.loop-left.invariant.told a);
+      origins = c.loop-left.invariant.origins;
       loops = loops_downwards ranked seeds (is_named c.args.self.now.named) c.requires.named i a f at (subst (λ k. AfterWhole here seeds (take k xs) f) (sym back) c.loop-left.invariant.so_far);
     }
 
@@ -68,6 +71,7 @@ loop-left-init g c =
       steps = omega (arith, c.len-left.ensures);
       so_far = subst (λ ys. AfterWhole here seeds ys f) (sym (take_all c.len-left.result xs (omega (arith, c.len-left.ensures))))
           (turn ranked seeds f c.requires.up);
+      origins = c.requires.origins;
       same = refl;
       told = c.requires.told;
       room = c.requires.room;
@@ -96,6 +100,7 @@ loop-left-preserved g c =
     record {
       within = omega (arith, c.loop-left.invariant.within);
       steps = omega (arith, c.step_down.ensures.cost, c.loop-left.invariant.steps);
+      origins = held_of (IsOf c.args.self.now.all) Whole here seeds f f' a c.requires.seeded c.loop-left.invariant.origins taken;
       so_far = down_more ranked seeds i a f f' at step so_far;
       same = c.step_down.ensures.told ∙ c.loop-left.invariant.same;
       told = λ b. still_told (IsTold c.args.gathered.now.told) here f f' b (down_same ranked seeds i a f f' at step so_far) (c.loop-left.invariant.told b);

@@ -1,9 +1,10 @@
-use Rattle.std.proofs.Common.{arith, inl, inr, ◌+◌, ◌<◌, length, ◌∙◌, sym, option_map, take, ap, subst}
+use Rattle.std.proofs.Common.{arith, inl, inr, ◌≡◌, None, Some, ◌+◌, ◌<◌, length, ◌∙◌, sym, option_map, take, ap, subst}
 use Rattle.std.proofs.lemmas.Bool.{cases_eq}
 use Rattle.std.proofs.lemmas.List.{get_or_read, take_all}
 use Rattle.net_names.specs.Numbers.{occurs}
 use Rattle.as_graph.specs.Topology.{relation}
 use Rattle.as_graph.proofs.Links.{relation_mutual}
+use Rattle.policy_laws.specs.Plain.{IsOf}
 use Rattle.route_choice.specs.declared.choice.Part.TheVariants.{Up}
 use Rattle.route_choice.specs.Routings.{entry_of, routing_of, seeds_of}
 use Rattle.route_choice.specs.PrefixWorlds.{setting_at}
@@ -12,6 +13,7 @@ use Rattle.route_choice.specs.NamedSets.{is_named}
 use Rattle.three_pass.specs.Told.{IsTold}
 use Rattle.three_pass.proofs.ByRank.{by_rank, stands_at}
 use Rattle.three_pass.proofs.InOrder.{none_yet, up_more, up_fresh, loops_upwards}
+use Rattle.three_pass.proofs.Origins.{held_of}
 use Rattle.three_pass.proofs.Quiet.{told_from}
 use Rattle.three_pass.proofs.Spending.{can_step, spent_nothing, spent_more, step_seeds}
 use Rattle.three_pass.proofs.pass.Passing.go_up.Goals as goal
@@ -24,6 +26,7 @@ loop-place-init g c =
       steps = omega arith;
       so_far = none_yet here (seeds_of pool c.args.self.now.at.seeds.now) (routing_of pool c.args.self.now.at.table.now c.args.overlay.now) (λ a. ap (option_map (entry_of pool)) (c.requires.empty a));
       holders = λ b n r there some linked other. cc;
+      origins = λ n e is. (let x : None ≡ Some e = sym (ap (option_map (entry_of pool)) (c.requires.empty n)) ∙ is in cc);
       true_notes = c.requires.true_notes;
       room = c.requires.room;
       spent = spent_nothing pool c.args.self.now.at.seeds.now c.args.self.now.at.table.now c.args.overlay.now c.args.self.now.course.now.order.ases.items;
@@ -53,6 +56,7 @@ step_up-requires-clause-ready g c =
       can = can_step c.loop-place.pool c.args.self.now.at.seeds.now c.args.self.now.at.table.now c.loop-place.overlay xs c.loop-place.invariant.room (omega (arith, within));
       true_notes = c.loop-place.invariant.true_notes;
       told = told_from (IsTold c.loop-place.gathered.told) here f done (relation_mutual c.args.self.now.at.graph.now) c.loop-place.invariant.so_far.rest c.loop-place.invariant.holders a;
+      origins = c.loop-place.invariant.origins;
       loops = λ none. loops_upwards ranked (seeds_of c.args.pool.now c.args.self.now.at.seeds.now) (is_named c.args.self.now.named) c.requires.named done f c.loop-place.invariant.so_far a;
     }
 
@@ -70,6 +74,7 @@ loop-place-preserved g c =
     let step = step_seeds Up here (seeds_of c.loop-place.pool c.args.self.now.at.seeds.now) seeds f a f' c.step_up.ensures.step (c.loop-place.invariant.spent.keeps.same_seeds a) in
     record {
       steps = omega (arith, c.step_up.ensures.cost, c.loop-place.invariant.steps);
+      origins = held_of (IsOf c.args.self.now.all) Up here seeds f f' a c.requires.seeded c.loop-place.invariant.origins step;
       so_far = up_more ranked seeds i a f f' at step c.loop-place.invariant.so_far;
       holders = λ b n r there some linked other. elim (cases_eq b a) [
         | inl e ↦ subst (IsTold c.step_up.new.gathered.told n) (sym e) (c.step_up.ensures.told.around (λ none. some (ap f' e ∙ none)) n r (ap (λ t. relation c.args.self.now.at.graph.now t n) (sym e) ∙ linked) other)

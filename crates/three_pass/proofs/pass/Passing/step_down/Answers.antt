@@ -1,15 +1,15 @@
-use Rattle.std.proofs.Common.{◌≡◌, ◌≢◌, true, false, Option, Some, None, is_some, option_map, arith, refl, sym, ◌∙◌, subst}
+use Rattle.std.proofs.Common.{◌≡◌, ◌≢◌, true, false, Option, Some, None, is_some, option_map, arith, refl, sym, ◌∙◌, subst, ap}
 use Rattle.net_names.specs.Numbers.{last_or}
 use Rattle.path_pool.specs.declared.pool.PathPool.{PathPool}
 use Rattle.route_choice.specs.declared.held.Held.{Held}
-use Rattle.route_choice.specs.Routings.{entry_of, routing_of}
+use Rattle.route_choice.specs.Routings.{entry_of, routing_of, seed_of, seeds_of}
 use Rattle.route_choice.specs.Tables.{joined}
 use Rattle.route_choice.specs.NamedSets.{is_named}
-use Rattle.route_choice.proofs.Leads.{plain_sends, plain_takes}
+use Rattle.route_choice.proofs.Leads.{offered_within, takes_within}
 use Rattle.route_choice.proofs.NoLoops.{no_loops}
-use Rattle.route_choice.proofs.Room.{keeps_itself}
 use Rattle.as_graph.specs.Topology.{relation}
-use Rattle.policy_laws.specs.Plain.{IsPlain}
+use Rattle.policy_laws.specs.declared.policy.Stance.TheVariants.{Nothing, Plain}
+use Rattle.policy_laws.specs.Plain.{IsOf, TakesNone, TakesPlainly}
 use Rattle.stability_laws.specs.Book.{policy_at}
 use Rattle.route_choice.specs.declared.choice.Part.TheVariants.{Whole}
 use Rattle.route_choice.specs.Givers.{AreGivers}
@@ -18,6 +18,8 @@ use Rattle.route_choice.specs.PrefixWorlds.{setting_at}
 use Rattle.three_pass.specs.Lists.{list_at}
 use Rattle.three_pass.specs.Told.{IsTold}
 use Rattle.three_pass.proofs.ByRank.{all_lawful}
+use Rattle.three_pass.proofs.Idle.{idle, unmoved}
+use Rattle.three_pass.proofs.Origins.{none_of}
 use Rattle.three_pass.proofs.Passings.{above_at}
 use Rattle.three_pass.proofs.Quiet.{givers}
 use Rattle.three_pass.proofs.pass.Passing.step_down.Goals as goal
@@ -28,24 +30,10 @@ joined_some pool None some none = cc
 joined_some pool (Some x) some none = cc
 
 pub returns-then-holds-clause-visit : goal.returns-then-holds-clause-visit
-returns-then-holds-clause-visit g c = record {
-  step = c.requires.held (λ none. joined_some c.args.pool.now (joined c.args.self.now.at.table.now c.args.overlay.now c.args.placed.asn) (sym c.holds.ensures ∙ c.if-holds.true) none);
-  changed = (λ no. (let x : false ≡ true = no in cc), λ other. absurd (other refl));
-  unchanged = λ same. (refl, refl);
-  put = λ no. (let x : false ≡ true = no in cc);
-  spent = record {
-    holds = λ k. refl;
-    lists = λ k live live'. refl;
-    counts = λ k. omega arith;
-    live = omega arith;
-    spare = omega arith;
-    limit = refl;
-    others = λ b ne. refl;
-    room = omega arith;
-    same_room = λ some. refl;
-  };
-  kept = λ up. keeps_itself c.args.pool.now c.args.self.now.at.seeds.now;
-}
+returns-then-holds-clause-visit g c =
+    let here = setting_at g.P.RoutePolicy.meaning g.V.OriginStates.state_of c.args.self.now.at in
+    unmoved Whole here c.args.self.now.at.seeds.now c.args.self.now.at.table.now c.args.pool.now c.args.overlay.now c.args.placed.asn
+    (c.requires.held (λ none. joined_some c.args.pool.now (joined c.args.self.now.at.table.now c.args.overlay.now c.args.placed.asn) (sym c.holds.ensures ∙ c.if-holds.true) none))
 
 joined_none : (pool : PathPool) (h : Option Held) → is_some h ≡ false → option_map (entry_of pool) h ≡ None
 joined_none pool None none = refl
@@ -59,14 +47,30 @@ visit_providers-requires-clause-unseeded g c = c.requires.passing.unnamed c.args
 
 pub visit_providers-requires-clause-own : goal.visit_providers-requires-clause-own
 visit_providers-requires-clause-own g c =
-    let marked = c.requires.passing.plain c.args.placed.place (c.is_plainly_untold.ensures.marked c.if-is_plainly_untold.true) in
     let here = setting_at g.P.RoutePolicy.meaning g.V.OriginStates.state_of c.args.self.now.at in
-    plain_takes (here.policy c.args.placed.asn) (IsOffered here (routing_of c.args.pool.now c.args.self.now.at.table.now c.args.overlay.now) c.args.placed.asn) (subst (λ a. IsPlain (here.policy a)) c.requires.ready.there marked.0)
+    let a = c.args.placed.asn in
+    let f = routing_of c.args.pool.now c.args.self.now.at.table.now c.args.overlay.now in
+    let plain = (c.requires.passing.stances c.args.placed.place Plain (c.is_plainly_untold.ensures.plain c.if-is_plainly_untold.true)).plain.0 refl in
+    takes_within (here.policy a) (IsOf c.args.self.now.all) (IsOffered here f a) (offered_within here f a (IsOf c.args.self.now.all) c.requires.ready.origins)
+    (subst (λ b. TakesPlainly (here.policy b) (IsOf c.args.self.now.all)) c.requires.ready.there plain.0)
 
 pub visit_providers-requires-clause-plain : goal.visit_providers-requires-clause-plain
 visit_providers-requires-clause-plain g c =
-    let marked = c.requires.passing.plain c.args.placed.place (c.is_plainly_untold.ensures.marked c.if-is_plainly_untold.true) in
-    subst (ArePlainSenders (λ n. g.P.RoutePolicy.meaning (policy_at c.args.self.now.at.book.now n))) (sym c.list-above.ensures) (λ k d less. ((marked.1 k d less).0, plain_sends _ (marked.1 k d less).1))
+    let plain = (c.requires.passing.stances c.args.placed.place Plain (c.is_plainly_untold.ensures.plain c.if-is_plainly_untold.true)).plain.0 refl in
+    subst (ArePlainSenders (λ n. g.P.RoutePolicy.meaning (policy_at c.args.self.now.at.book.now n))) (sym c.list-above.ensures) plain.1
+
+pub returns-then-takes_none-clause-visit : goal.returns-then-takes_none-clause-visit
+returns-then-takes_none-clause-visit g c =
+    let here = setting_at g.P.RoutePolicy.meaning g.V.OriginStates.state_of c.args.self.now.at in
+    let a = c.args.placed.asn in
+    let pool = c.args.pool.now in
+    let seeds = c.args.self.now.at.seeds.now in
+    let f = routing_of pool c.args.self.now.at.table.now c.args.overlay.now in
+    let (unnamed, at) = c.takes_none.ensures c.if-takes_none.true in
+    let none = none_of (IsOf c.args.self.now.all) Whole here f a c.requires.ready.origins (subst (λ b. TakesNone (here.policy b) (IsOf c.args.self.now.all)) c.requires.ready.there ((c.requires.passing.stances c.args.placed.place Nothing at).nothing.0 refl)) in
+    let no_seed = ap (option_map (seed_of pool)) (c.requires.passing.unnamed a (sym c.has-may_loop.ensures.value ∙ unnamed)) in
+    unmoved Whole here seeds c.args.self.now.at.table.now pool c.args.overlay.now a
+    (idle Whole here (seeds_of pool seeds) f a no_seed (joined_none pool (joined c.args.self.now.at.table.now c.args.overlay.now a) (sym c.holds.ensures ∙ c.if-holds.false)) none)
 
 pub visit_providers-requires-clause-givers : goal.visit_providers-requires-clause-givers
 visit_providers-requires-clause-givers g c =
