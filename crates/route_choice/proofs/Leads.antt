@@ -12,7 +12,7 @@ use Rattle.net_names.specs.declared.routes.State.{State}
 use Rattle.net_names.specs.Links.{converse}
 use Rattle.net_names.specs.Numbers.{last_or, occurs}
 use Rattle.policy_laws.specs.Policy.{Policy}
-use Rattle.policy_laws.specs.Plain.{IsPlain, SendsPlainly, TakesNone, TakesPlainly, plain_key, provider_key}
+use Rattle.policy_laws.specs.Plain.{SendsPlainly, TakesNone, TakesPlainly, provider_key}
 use Rattle.policy_laws.specs.declared.policy.View.{View}
 use Rattle.as_graph.specs.declared.neighbour.Neighbour.{Neighbour}
 use Rattle.as_graph.specs.Neighbours.{asns}
@@ -213,14 +213,3 @@ no_offer_given s r st n a (Some from) (Some e) test all none =
 -- who takes no offer of the states of all entries' origins gets no offer
 pub no_offers : (w : Setting) (f : ℕ → Option Entry) (a : ℕ) (test : State → Type 0) → ((n : ℕ) (e : Entry) → f n ≡ Some e → test (w.state (last_or 0 e.path))) → TakesNone (w.policy a) test → (n : ℕ) → offer w f n a ≡ None
 no_offers w f a test all none n = no_offer_given (w.policy n) (w.policy a) w.state n a (w.relation a n) (f n) test (all n) none
-
--- the plain policy takes providers' offers plainly, whatever their states are, and sends plainly
-pub plain_takes : (p : Policy) (test : State → Type 0) → IsPlain p → TakesPlainly p test
-plain_takes p test own = record {
-  accepts = λ v r s. own.accepts v;
-  before = λ x y r r' s s'. own.before x y ∙ (λ i. is_lt (slice_cmp nat_cmp (plain_key (record x { rel = r i })) (plain_key (record y { rel = r' i }))));
-  unmarked = own.unmarked;
-}
-
-pub plain_sends : (p : Policy) → IsPlain p → SendsPlainly p
-plain_sends p own = record { to_customers = own.to_customers; unmarked = own.unmarked }

@@ -13,3 +13,6 @@ pub mod Elements
 pub mod Noted
 pub mod Chains
 pub mod Marking
+pub mod Origins
+pub mod StanceLemmas
+pub mod Passings

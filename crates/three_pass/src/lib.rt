@@ -13,6 +13,8 @@ mod looks;
 mod pass;
 mod passes;
 mod stable;
+mod stances;
+mod states;
 mod told;
 mod way;
 

@@ -3,15 +3,21 @@
 use crate::course::Course;
 use crate::looks::Looks;
 use crate::told::Told;
-use route_choice::NamedSet;
+use net_names::State;
+use policy_laws::Stance;
+use route_choice::{NamedSet, PrefixWorld};
 
-/// What a pass goes along, and what is known of its seeds.
+/// What the passes of one prefix read: the world at the prefix, what they go along, and what is known of the seeds.
 #[derive(Drop)]
-pub struct Pass<'a> {
+pub struct Passing<'w, 'a, P, V> {
+    /// The world at the prefix.
+    pub at: PrefixWorld<'w, P, V>,
     /// The ASes in their order, and their providers.
     pub course: &'a Course,
-    /// For each place of the order whether the AS there and all its providers have the plain policy for certain.
-    pub plain: &'a [bool],
+    /// The state that the origins of all seeds have, if it is one.
+    pub all: Option<State>,
+    /// For each place of the order what the AS there does with providers' offers of such states.
+    pub stances: &'a [Stance],
     /// The numbers on the paths of the seeds, each with the paths' origins, and the ASes that have these.
     pub named: NamedSet,
 }

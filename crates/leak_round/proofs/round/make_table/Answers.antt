@@ -16,16 +16,14 @@ routed : (pool : PathPool) (o : Option Held) → IsSome o → IsSome (option_map
 routed pool None h = h
 routed pool (Some x) h = refl
 
-pub propagate_along-requires-clause-seeds : goal.propagate_along-requires-clause-seeds
-propagate_along-requires-clause-seeds g c =
-    seeds_live c.args.pool.now c.args.building.now.plan.now c.args.building.now.announced.now c.args.earlier.now [] c.args.round c.args.prefix c.in_ok-seeds.seeds c.in_ok-seeds.ensures c.requires.can.announced
-    (λ a h e. held_of-live c.args.pool.now c.args.building.now.plan.now c.args.earlier.now c.requires.can.earlier_full (c.args.round - 1) c.args.prefix a h e)
-
-pub propagate_along-requires-clause-counts : goal.propagate_along-requires-clause-counts
-propagate_along-requires-clause-counts g c = λ k. omega (arith, c.requires.room.counts k)
-
-pub propagate_along-requires-clause-room : goal.propagate_along-requires-clause-room
-propagate_along-requires-clause-room g c = omega (arith, c.requires.room.cells, c.as_count-count.ensures.few)
+pub propagate_along-requires-clause-can : goal.propagate_along-requires-clause-can
+propagate_along-requires-clause-can g c = record {
+  no_cycle = c.args.building.now.no_cycle;
+  seeds = seeds_live c.args.pool.now c.args.building.now.plan.now c.args.building.now.announced.now c.args.earlier.now [] c.args.round c.args.prefix c.in_ok-seeds.seeds c.in_ok-seeds.ensures c.requires.can.announced
+      (λ a h e. held_of-live c.args.pool.now c.args.building.now.plan.now c.args.earlier.now c.requires.can.earlier_full (c.args.round - 1) c.args.prefix a h e);
+  counts = λ k. omega (arith, c.requires.room.counts k);
+  room = omega (arith, c.requires.room.cells, c.as_count-count.ensures.few);
+}
 
 pub returns-clause-stable : goal.returns-clause-stable
 returns-clause-stable g c =
@@ -33,7 +31,7 @@ returns-clause-stable g c =
     let same = λ (a : ℕ). seeds_are pool plan c.args.building.now.announced.now earlier [] c.args.round c.args.prefix c.in_ok-seeds.seeds c.in_ok-seeds.ensures c.requires.can.announced (λ b. refl) c.requires.known a
     ∙ seeds_kept pool plan earlier c.args.round c.args.prefix (let next : c.args.round ≡ suc (length c.args.earlier.now) = omega (arith, c.requires.number) in next) a in
     let F : (ℕ → Option Seed) → Type 0 = λ s. IsStable (setting_in g.P.RoutePolicy.meaning g.V.OriginStates.state_of c.args.building.now.world.now c.args.prefix) s (table_routing c.propagate_along.new.pool c.in_ok-table.table) in
-    subst F (λ i a. same a i) c.in_ok-table.ensures.stable
+    subst F (λ i a. same a i) c.in_ok-table.ensures.made.stable
 
 pub returns-clause-made : goal.returns-clause-made
 returns-clause-made g c =
@@ -42,7 +40,7 @@ returns-clause-made g c =
     let graph = c.args.building.now.world.now.graph.now in
     let t = c.in_ok-table.table in
     let f = table_routing new t in
-    let now = c.in_ok-table.ensures in
+    let now = c.in_ok-table.ensures.made in
     let h = now.cells in
     let few : length h.ases ≤ MOST_ASES = (let n = few_entries graph f h.ases h.distinct h.entries now.stable.only_ases in omega (arith, n, c.as_count-count.ensures.value, c.as_count-count.ensures.few)) in
     record {
@@ -50,8 +48,8 @@ returns-clause-made g c =
       live = now.live;
       holds = now.holds;
       cells = table_entries old new f h;
-      keeps = record { live = now.kept.live; lists = now.kept.lists };
-      grows = record { cells = omega (arith, h.few, few); counts = λ k. omega (arith, h.counts k, few); limit = now.limit };
+      keeps = record { live = c.in_ok-table.ensures.kept.live; lists = c.in_ok-table.ensures.kept.lists };
+      grows = record { cells = omega (arith, h.few, few); counts = λ k. omega (arith, h.counts k, few); limit = c.in_ok-table.ensures.limit };
       small = λ k.
           (let u = c.uses_are_counted.ensures k in
           let n = few_entries graph f u.ases u.distinct (λ a o. routed new (held_at t a) (u.entries a o)) now.stable.only_ases in
