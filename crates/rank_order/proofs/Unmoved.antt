@@ -52,8 +52,8 @@ all_stay old new rank a b no_cycle are same stay = fitting_is_rank (relation new
       | inl e ↦ subst (RankFits (relation new) rank) (sym e) (fits_at old new rank fits a b (links_at old new a b same) stay.above_customer stay.more_than_customer)
       | inr not_a ↦ elim (cases_eq x b) [
         | inl e ↦ subst (RankFits (relation new) rank) (sym e)
-        (fits_at old new rank fits b a (links_at old new b a (λ y n not_b other. same y n other not_b)) (λ link. stay.below_provider (turned (relation new a b) (sym (links_are_sound_lem.alike new a b) ∙ link)))
-        (λ link. stay.more_than_self (turned (relation old a b) (sym (links_are_sound_lem.alike old a b) ∙ link))))
+            (fits_at old new rank fits b a (links_at old new b a (λ y n not_b other. same y n other not_b)) (λ link. stay.below_provider (turned (relation new a b) (sym (links_are_sound_lem.alike new a b) ∙ link)))
+            (λ link. stay.more_than_self (turned (relation old a b) (sym (links_are_sound_lem.alike old a b) ∙ link))))
         | inr not_b ↦ fits_at old new rank fits x x (λ n _. same x n not_a not_b) (λ link. (let none = links_are_sound_lem.to_itself new x in cc)) (λ link. (let none = links_are_sound_lem.to_itself old x in cc))
       ]
     ]
