@@ -172,7 +172,7 @@ all_undone old mid same last first alike second world = record {
   same_rows = rest_rows same last second ∙ unchanged_rows mid same alike ∙ rest_rows old mid first;
 }
 
-within : (n most : ℕ) → n ≤ most → nat_le n most ≡ true
+pub within : (n most : ℕ) → n ≤ most → nat_le n most ≡ true
 within n most h = grind (arith, nat_tests, h)
 
 -- a world that no limit refuses

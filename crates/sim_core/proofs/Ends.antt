@@ -1,5 +1,5 @@
 -- The ends of an edited link: who of them is not touched is right still.
-use Rattle.std.proofs.Common.{◌≡◌, ◌≢◌, ◌⊎◌, inl, inr, ◌<◌, ◌==◌, ◌||◌, ◌&&◌, ℕ, zero, suc, nat_lt, Bool, true, false, IsTrue, is_some, Option, None, Some, List, [], ◌∷◌, refl, sym, ap, subst, ◌∙◌, arith}
+use Rattle.std.proofs.Common.{◌≡◌, ◌≢◌, ◌⊎◌, inl, inr, ◌<◌, ◌==◌, ◌||◌, ◌&&◌, ℕ, zero, suc, nat_lt, Bool, true, false, IsTrue, Option, None, Some, [], ◌∷◌, refl, sym, ap, subst, ◌∙◌, arith}
 use Rattle.std.specs.FinMap as fin
 use Rattle.std.proofs.lemmas.Bool.{cases_Bool, eq-eqb, eqb-true, true≢false}
 use Rattle.net_names.specs.Numbers.{occurs}
@@ -30,6 +30,7 @@ use Rattle.rank_order.proofs.Unmoved.{links_at}
 use Rattle.sim_core.specs.Families.{Family}
 use Rattle.sim_core.specs.Ground.{DiffersAround, DiffersAtPair, Ground, IsRightOn}
 use Rattle.sim_core.proofs.Grounds.{seller}
+use Rattle.net_names.proofs.Shared.{none_from}
 
 -- who is none of the pair
 off_pair : (t s : Bool) → (t || (s || false)) ≡ false → (t ≡ false) × (s ≡ false)
@@ -57,15 +58,11 @@ silent_seed : (leaks : Bool) → seed_given None leaks None ≡ None
 silent_seed true = refl
 silent_seed false = refl
 
-unannounced : (o : Option (List ℕ)) → is_some o ≡ false → o ≡ None
-unannounced None e = refl
-unannounced (Some path) e = cc
-
 -- who announces nothing and held nothing in the round before has no seed
 no_seed : (plan : Plan) (g : Family) (prefix : PrefixValue) (a before : ℕ) → announces plan prefix a ≡ false → ((r : ℕ) → r < before → g (suc r) prefix a ≡ None) → seeds_of plan (suc before) prefix (g before prefix) a ≡ None
-no_seed plan g prefix a zero silent held = ap (λ o. seed_given o (nat_lt 1 1 && fin.contains_key plan.leakers (1, a)) (g 0 prefix a)) (unannounced (announced_path plan prefix a) silent)
+no_seed plan g prefix a zero silent held = ap (λ o. seed_given o (nat_lt 1 1 && fin.contains_key plan.leakers (1, a)) (g 0 prefix a)) (none_from (announced_path plan prefix a) silent)
 no_seed plan g prefix a (suc k) silent held =
-    (λ i. seed_given (unannounced (announced_path plan prefix a) silent i) (nat_lt 1 (suc (suc k)) && fin.contains_key plan.leakers (suc (suc k), a)) (held k (omega arith) i))
+    (λ i. seed_given (none_from (announced_path plan prefix a) silent i) (nat_lt 1 (suc (suc k)) && fin.contains_key plan.leakers (suc (suc k), a)) (held k (omega arith) i))
     ∙ silent_seed (nat_lt 1 (suc (suc k)) && fin.contains_key plan.leakers (suc (suc k), a))
 
 -- who is no AS, and announces nothing, is right with nothing

@@ -7,11 +7,7 @@ use Rattle.std.specs.FinMap as fin
 use Rattle.std.specs.FinMap.Entries.{by_order, put}
 use Rattle.std.proofs.lemmas.List.{nil_from_length}
 use Rattle.net_names.specs.Numbers.{occurs}
-
-or_swap : (a b c : Bool) → (a || (b || c)) ≡ (b || (a || c))
-or_swap true true c = refl
-or_swap true false c = refl
-or_swap false b c = refl
+use Rattle.net_names.proofs.Shared.{or_swap}
 
 or_again : (a b : Bool) → (a || b) ≡ (a || (a || b))
 or_again true b = refl

@@ -35,7 +35,7 @@ use Rattle.sim_core.specs.declared.errors.EditError.TheVariants as refused
 use Rattle.sim_core.specs.declared.errors.EditLimit.TheVariants.{Links, Announcements, Ases}
 use Rattle.sim_core.specs.declared.parts.Parts.{Parts}
 use Rattle.sim_core.proofs.CycleLemmas.{new_below, none_below, without_below}
-use Rattle.sim_core.proofs.Doing.{all_undone, begun_belongs, unchanged_world}
+use Rattle.sim_core.proofs.Doing.{all_undone, begun_belongs, unchanged_world, within}
 
 -- the world with these links
 pub links_world : (old new : Parts) (a b : ℕ) (links : LinkMap) → HasLinks old new a b links → world_seen new ≡ record (world_seen old) { links = links }
@@ -52,9 +52,6 @@ links_world old new a b links h = λ i. record {
 
 pub over : (n most : ℕ) → most < n → nat_le n most ≡ false
 over n most h = grind (arith, nat_tests, h)
-
-pub within : (n most : ℕ) → n ≤ most → nat_le n most ≡ true
-within n most h = grind (arith, nat_tests, h)
 
 -- the first limit that is passed is that of ASes
 pub limit_ases : (w : World) (e : Edit) → absent w e ≡ None → fin.len (edited w e).links ≤ 1500000 → fin.len (edited w e).plan.announced ≤ 64 → 150000 < as_count (topology (edited w e)) → refusal_of_edit w e ≡ Some (refused.Limit Ases)

@@ -11,10 +11,7 @@ use Rattle.as_graph.proofs.Links.{ends_of}
 use Rattle.sim_core.specs.Marking.{IsMarksRefusal, marked}
 use Rattle.sim_core.specs.declared.errors.LoadError.{LoadError}
 use Rattle.sim_core.specs.declared.errors.LoadError.TheVariants as load_error
-
-or_assoc : (a b c : Bool) → ((a || b) || c) ≡ (a || (b || c))
-or_assoc true b c = refl
-or_assoc false b c = refl
+use Rattle.net_names.proofs.Shared.{or_assoc}
 
 -- a mark adds the AS to the ASes
 ases-with_mark : (g : Topology) (a : ℕ) → set.from_list {R = nat_cmp} (ases (with_mark g a)) ≡ set.insert (set.from_list (ases g)) a

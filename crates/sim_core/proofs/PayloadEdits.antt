@@ -4,7 +4,7 @@ use Rattle.std.specs.List.{filter, list_any}
 use Rattle.std.specs.FinMap.Entries.{by_order}
 use Rattle.std.proofs.lemmas.Bool.{true≢false}
 use Rattle.std.specs.FinMap as fin
-use Rattle.std.specs.Ordering.{eq_by_cmp, is_eq}
+use Rattle.std.specs.Ordering.{eq_by_cmp}
 use Rattle.std.specs.declared.cmp.Ordering.{Ordering}
 use Rattle.std.specs.declared.cmp.Ordering.TheVariants.{Less, Equal, Greater}
 use Rattle.std.specs.Prelude.{if◌then◌else◌, slice_get}
@@ -35,17 +35,9 @@ use Rattle.sim_core.specs.declared.errors.EditError.TheVariants as refused
 use Rattle.sim_core.specs.declared.errors.EditLimit.TheVariants.{Vrps}
 use Rattle.sim_core.specs.Ground.{DiffersAround, Ground, IsOrigin, policy_on}
 use Rattle.sim_core.specs.declared.parts.Parts.{Parts}
-use Rattle.sim_core.proofs.LinkEdits.{over, within}
-use Rattle.sim_core.proofs.Doing.{allowed_by, no_limit, rest_kept, rest_rows, seen_count, seen_with}
-
-tied : (o : Ordering) → is_eq o ≡ true → o ≡ Equal
-tied Less h = cc
-tied Equal h = refl
-tied Greater h = cc
-
-absent_none : {X : Type 0} (o : Option X) → is_some o ≡ false → o ≡ None
-absent_none None h = refl
-absent_none (Some x) h = cc
+use Rattle.sim_core.proofs.LinkEdits.{over}
+use Rattle.sim_core.proofs.Doing.{allowed_by, no_limit, rest_kept, rest_rows, seen_count, seen_with, within}
+use Rattle.net_names.proofs.Shared.{is_equal, none_from}
 
 pub there_unit : (o : Option (Unit {0})) → is_some o ≡ true → o ≡ Some tt
 there_unit None h = cc
@@ -60,13 +52,13 @@ once true o h = sym (h refl)
 once false o h = refl
 
 at_key : (s : Payloads) (v q : VrpValue) → eq_by_cmp vrp_cmp q v ≡ true → fin.get s q ≡ fin.get s v
-at_key s v q e = ap (fin.get s) (exact_vrp q v (tied (vrp_cmp q v) e))
+at_key s v q e = ap (fin.get s) (exact_vrp q v (is_equal (vrp_cmp q v) e))
 
 -- a new payload, taken out again
 pub added_taken : (s : Payloads) (v : VrpValue) → has s v ≡ false → taken (added s v) v ≡ s
 added_taken s v none = fin.same_map vrp_total exact_vrp _ _ (λ q.
     fin.get-remove vrp_total (added s v) v q ∙ ap (cond (eq_by_cmp vrp_cmp q v) None) (fin.get-insert vrp_total s v tt q)
-    ∙ twice (eq_by_cmp vrp_cmp q v) (fin.get s q) (λ e. at_key s v q e ∙ absent_none (fin.get s v) none))
+    ∙ twice (eq_by_cmp vrp_cmp q v) (fin.get s q) (λ e. at_key s v q e ∙ none_from (fin.get s v) none))
 
 -- a payload that is there
 pub added_again : (s : Payloads) (v : VrpValue) → has s v ≡ true → added s v ≡ s
@@ -130,7 +122,7 @@ taken_elsewhere s v p origin free = by (has s v) refl
 
     by : (b : Bool) → has s v ≡ b → state_of (taken s v) p origin ≡ state_of s p origin
     by true there = sym (state_elsewhere (taken s v) v p origin free) ∙ ap (λ (x : Payloads). state_of x p origin) (taken_added s v there)
-    by false none = ap (λ (x : Payloads). state_of x p origin) (fin.same_map vrp_total exact_vrp (taken s v) s (λ q. fin.get-remove vrp_total s v q ∙ stays (eq_by_cmp vrp_cmp q v) (fin.get s q) (λ e. at_key s v q e ∙ absent_none (fin.get s v) none)))
+    by false none = ap (λ (x : Payloads). state_of x p origin) (fin.same_map vrp_total exact_vrp (taken s v) s (λ q. fin.get-remove vrp_total s v q ∙ stays (eq_by_cmp vrp_cmp q v) (fin.get s q) (λ e. at_key s v q e ∙ none_from (fin.get s v) none)))
 
 -- only states of origins differ that readers see, and these are touched
 pub payload_differs : (g h : Ground) (rounds : Rounds) (touched : PrefixValue → ℕ → Bool) → h.graph ≡ g.graph → h.book ≡ g.book

@@ -8,7 +8,6 @@ use Rattle.std.proofs.lemmas.Cmp.{nat_cmp_total, tied_itself}
 use Rattle.std.proofs.lemmas.Map.Lookups.{exact_pairs, exact_unsigned}
 use Rattle.std.specs.Cmp.{IsTotalOrder}
 use Rattle.std.specs.declared.cmp.Ordering.{Ordering}
-use Rattle.std.specs.declared.cmp.Ordering.TheVariants.{Less, Equal, Greater}
 use Rattle.std.specs.Ordering.{nat_cmp, eq_by_cmp, is_eq}
 use Rattle.std.specs.FinMap as fin
 use Rattle.std.specs.FinSet as set
@@ -23,6 +22,7 @@ use Rattle.net_names.specs.Orders.{exact_prefix, prefix_total, exact_announcemen
 use Rattle.scenario_text.specs.Scenarios.{ScenarioValue, IsScenario, StartsWith, announcement_name}
 use Rattle.scenario_text.specs.declared.scenario.Announcement.{Announcement}
 use Rattle.sim_core.specs.Loaded.{is_other}
+use Rattle.net_names.proofs.Shared.{is_equal}
 
 -- who leaks in which round, as the entries of a set
 abbrev pub Leaks : Type 0
@@ -68,11 +68,6 @@ module _ {K : Type 0} {R : K → K → Ordering} (o : IsTotalOrder R) (same : fi
       fin.get-from_entries o (es ++ (k, tt) ∷ []) q
       ∙ find_push es k q
       ∙ sym (fin.get-insert o (fin.from_entries es) k tt q ∙ ap (cond (eq_by_cmp R q k) (there)) (fin.get-from_entries o es q)))
-
-is_equal : (r : Ordering) → is_eq r ≡ true → r ≡ Equal
-is_equal Less e = cc
-is_equal Equal e = refl
-is_equal Greater e = cc
 
 -- a key that none of the entries has is not found
 module _ {K X : Type 0} {R : K → K → Ordering} (same : fin.IsAntisymmetric R) where

@@ -1,17 +1,11 @@
 -- Lists of numbers with one more at the end, and places below one more.
 use Rattle.std.proofs.Common.{◌≡◌, ◌⊎◌, inl, inr, ◌==◌, ◌||◌, ◌+◌, ◌<◌, ℕ, Bool, true, false, List, [], ◌∷◌, ◌++◌, length, get_or, take, refl, sym, ap, ◌∙◌}
-use Rattle.std.proofs.lemmas.Bool.{eq-eqb, eqb-true, or_left, or_right}
+use Rattle.std.proofs.lemmas.Bool.{eqb-true}
 use Rattle.std.proofs.lemmas.List.{map-append, take_more}
 use Rattle.as_graph.specs.Neighbours.{asns}
 use Rattle.as_graph.specs.declared.neighbour.Neighbour.{Neighbour}
 use Rattle.net_names.specs.Numbers.{occurs}
 use Rattle.as_graph.proofs.RowAses.{occurs-append}
-
-pub pushed_more : (n : ℕ) (xs : List ℕ) (y : ℕ) → occurs n xs ≡ true → occurs n (xs ++ y ∷ []) ≡ true
-pushed_more n xs y h = occurs-append n xs (y ∷ []) ∙ or_left (occurs n xs) (occurs n (y ∷ [])) h
-
-pub pushed_own : (xs : List ℕ) (y : ℕ) → occurs y (xs ++ y ∷ []) ≡ true
-pushed_own xs y = occurs-append y xs (y ∷ []) ∙ or_right (occurs y xs) (occurs y (y ∷ [])) (or_left (y == y) false (eq-eqb y y refl))
 
 pub pushed_split : (n : ℕ) (xs : List ℕ) (y : ℕ) → occurs n (xs ++ y ∷ []) ≡ true → (occurs n xs ≡ true) ⊎ (y ≡ n)
 pushed_split n xs y h = by (occurs n xs) refl (y == n) refl (sym (occurs-append n xs (y ∷ [])) ∙ h)

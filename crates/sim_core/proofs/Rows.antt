@@ -48,11 +48,7 @@ use Rattle.sim_core.specs.World.{World, kind_at, topology}
 use Rattle.sim_core.proofs.Standing.{stands}
 use Rattle.sim_core.specs.Watching.{AreWatchRows, HasRows, IsWatchOf, end_at}
 use Rattle.sim_core.proofs.Watches.{cases_nat, map_at}
-
-same_bool : (b c : Bool) → (b ≡ true → c ≡ true) → (c ≡ true → b ≡ true) → b ≡ c
-same_bool true c to back = sym (to refl)
-same_bool false true to back = back refl
-same_bool false false to back = refl
+use Rattle.net_names.proofs.Shared.{same_test}
 
 pub and_false : (b : Bool) → (b && false) ≡ false
 and_false true = refl
@@ -245,7 +241,7 @@ module _ (w : World) (k : Kept) (next : ℕ → Hop) (rows : List Row) (stubs : 
 
   member : (g : Group) (place : ℕ) (r : Row) → slice_get rows place ≡ Some r → is_in (which_of g) r.stub r.label ≡ in_group w k g r.asn
   member group.Total place r at = refl
-  member group.Stub place r at = same_bool r.stub (k.ranks r.asn == 0) (λ h. (stubs r.asn).1 ((are.stubs place r at).0 h)) (λ h. (are.stubs place r at).1 ((stubs r.asn).0 h))
+  member group.Stub place r at = same_test r.stub (k.ranks r.asn == 0) (λ h. (stubs r.asn).1 ((are.stubs place r at).0 h)) (λ h. (are.stubs place r at).1 ((stubs r.asn).0 h))
   member (group.Of kind) place r at = λ i. ((are.labels place r at ∙ sym (label_is (kind_at w r.asn))) i) == (sym (label_is kind) i)
 
   -- the report over the rows is that over the ASes

@@ -15,6 +15,7 @@ use Rattle.sim_core.specs.Loaded.{is_other}
 use Rattle.sim_core.specs.Marking.{with_mark_if}
 use Rattle.sim_core.specs.World.{named}
 use Rattle.sim_core.proofs.PolicyEdits.{AreOther, Kinds, leakers, as_other, is_key, named_by, occurs_keys}
+use Rattle.net_names.proofs.Shared.{or_assoc}
 
 or_cond : (b c : Bool) → (b || c) ≡ cond b true c
 or_cond true c = refl
@@ -45,16 +46,12 @@ some_if : (b : Bool) (k : Kind) → is_some (cond b (Some k) None) ≡ b
 some_if true k = refl
 some_if false k = refl
 
-join : (x y k : Bool) → ((x || y) || k) ≡ (x || (y || k))
-join true y k = refl
-join false y k = refl
-
 pub named_is : (plan : Plan) (m : Kinds) (a : ℕ) (kind : Kind) (by_plan by_policy : Bool) → AreOther m → by_plan ≡ (occurs a (announcers_of plan) || occurs a (leakers plan)) → kind ≡ unwrap_or (fin.get m a) Plain → by_policy ≡ is_other (a, kind)
     → (by_plan || by_policy) ≡ set.contains (set.from_list {R = nat_cmp} (named plan m)) a
 named_is plan m a kind by_plan by_policy others first is second =
     let other : by_policy ≡ occurs a (fin.keys m) =
     second ∙ ap (λ (k : Kind). is_other (a, k)) is ∙ sym (some_if (is_other (a, unwrap_or (fin.get m a) Plain)) (unwrap_or (fin.get m a) Plain)) ∙ ap is_some (as_other a (fin.get m a) (others a)) ∙ sym (occurs_keys m a) in
-    (λ i. first i || other i) ∙ join (occurs a (announcers_of plan)) (occurs a (leakers plan)) (occurs a (fin.keys m)) ∙ sym (named_by plan m a)
+    (λ i. first i || other i) ∙ or_assoc (occurs a (announcers_of plan)) (occurs a (leakers plan)) (occurs a (fin.keys m)) ∙ sym (named_by plan m a)
 
 module _ (old plan : Plan) (m : Kinds) (a : ℕ) (same : plan.leakers ≡ old.leakers) (others : (x : ℕ) → x ≢ a → occurs x (announcers_of plan) ≡ occurs x (announcers_of old)) where
   elsewhere : (q : ℕ) → q ≢ a → set.contains (set.from_list {R = nat_cmp} (named plan m)) q ≡ set.contains (set.from_list {R = nat_cmp} (named old m)) q

@@ -8,6 +8,7 @@ use Rattle.net_names.specs.Links.{LinkMap}
 use Rattle.net_names.specs.Numbers.{occurs}
 use Rattle.as_graph.specs.Topology.{Topology, unmarked, with_mark}
 use Rattle.sim_core.specs.Marking.{marked}
+use Rattle.net_names.proofs.Shared.{or_false}
 
 or_turned : (a b c : Bool) → (b || (a || c)) ≡ ((a || b) || c)
 or_turned true true c = refl
@@ -31,10 +32,6 @@ contains-marked g (a ∷ names) q =
     contains-marked (with_mark g a) names q
     ∙ ap (λ b. occurs q names || b) (set.contains-insert nat_cmp_total g.marked a q ∙ ap (λ b. b || set.contains g.marked q) (is_mark q a))
     ∙ or_turned (a == q) (occurs q names) (set.contains g.marked q)
-
-or_false : (b : Bool) → (b || false) ≡ b
-or_false true = refl
-or_false false = refl
 
 -- the marks are those of any list with the same numbers
 pub marked_are : (links : LinkMap) (names others : List ℕ) → ((q : ℕ) → occurs q others ≡ occurs q names) → marked (unmarked links) names ≡ record { links = links; marked = set.from_list others; room = None }

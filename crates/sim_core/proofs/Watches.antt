@@ -4,9 +4,7 @@ use Rattle.std.specs.Prelude.{option_and_then, position, slice_get}
 use Rattle.std.specs.Cmp.{eq_by_cmp_equiv}
 use Rattle.std.proofs.lemmas.List.{length-map, map-append}
 use Rattle.std.specs.List.{AllPairs, list_any, position_or_len}
-use Rattle.std.specs.Ordering.{eq_by_cmp, is_eq, nat_cmp}
-use Rattle.std.specs.declared.cmp.Ordering.{Ordering}
-use Rattle.std.specs.declared.cmp.Ordering.TheVariants.{Less, Equal, Greater}
+use Rattle.std.specs.Ordering.{eq_by_cmp, nat_cmp}
 use Rattle.std.specs.FinMap as fin
 use Rattle.std.specs.FinSet as set
 use Rattle.std.proofs.lemmas.Bool.{leb-true, le-leb, ltb-true, or_right}
@@ -38,6 +36,7 @@ use Rattle.sim_core.specs.declared.watching.RoundWatches.{RoundWatches}
 use Rattle.sim_core.specs.Watching.{AreRoundWatches, AreWatchRows, AreWatches, HasWatches, IsPlaceOrNone, addrs_in, place_in, rows_in, seen_in, seen_of, watch_at}
 use Rattle.sim_core.specs.Parts.{IsNamed, world_by}
 use Rattle.sim_core.specs.World.{graph_of, kind_at, topology}
+use Rattle.net_names.proofs.Shared.{is_equal}
 
 -- ---- lists
 
@@ -69,11 +68,6 @@ first_within p (x ∷ xs) = by (p x) (first_within p xs)
     by true rest = sym (first_less (length xs))
     by false rest = rest ∙ one_further (position_or_len p xs) (length xs)
 
-tied_is : (o : Ordering) → is_eq o ≡ true → o ≡ Equal
-tied_is Less h = cc
-tied_is Equal h = refl
-tied_is Greater h = cc
-
 -- ---- addresses
 
 same_family : (f g : Family) → width f ≡ width g → f ≡ g
@@ -93,7 +87,7 @@ pub stands : (addrs : List AddrValue) (addr : AddrValue) → place_in addrs addr
 stands addrs addr less =
     let there = slice_get-get_or addrs (place_in addrs addr) addr less in
     let tied : eq_by_cmp addr_cmp addr (get_or addrs (place_in addrs addr) addr) ≡ true = passes_at_first (eq_by_cmp addr_cmp addr) addrs addr less in
-    there ∙ ap (λ a. Some a) (sym (exact_addr addr (get_or addrs (place_in addrs addr) addr) (tied_is (addr_cmp addr (get_or addrs (place_in addrs addr) addr)) tied)))
+    there ∙ ap (λ a. Some a) (sym (exact_addr addr (get_or addrs (place_in addrs addr) addr) (is_equal (addr_cmp addr (get_or addrs (place_in addrs addr) addr)) tied)))
 
 pub watched_place : (addrs : List AddrValue) (addr : AddrValue) → set.contains (set.from_list {R = addr_cmp} addrs) addr ≡ true → place_in addrs addr < length addrs
 watched_place addrs addr is = ltb-true _ _ (sym (first_within (eq_by_cmp addr_cmp addr) addrs) ∙ (sym (set.contains-from_list addr_total addrs addr) ∙ is))

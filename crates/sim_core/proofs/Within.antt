@@ -22,6 +22,7 @@ use Rattle.sim_core.specs.Loaded.{is_other, names_in, plan_of}
 use Rattle.sim_core.proofs.PolicyEdits.{leakers}
 use Rattle.sim_core.proofs.Keys.{occurs-from_entries}
 use Rattle.sim_core.proofs.Plans.{exact_pair, kinds_of, leaks_from, leaks_in}
+use Rattle.net_names.proofs.Shared.{map-map}
 
 -- ---- the limits
 
@@ -80,10 +81,6 @@ within s is = record {
 
 -- ---- the names
 
-map_map : {A B C : Type 0} (f : A → B) (g : B → C) (xs : List A) → map g (map f xs) ≡ map (λ x. g (f x)) xs
-map_map f g [] = refl
-map_map f g (x ∷ xs) = ap (λ ys. g (f x) ∷ ys) (map_map f g xs)
-
 map_append : {A B : Type 0} (f : A → B) (xs ys : List A) → map f (xs ++ ys) ≡ map f xs ++ map f ys
 map_append f [] ys = refl
 map_append f (x ∷ xs) ys = ap (λ zs. f x ∷ zs) (map_append f xs ys)
@@ -96,7 +93,7 @@ of_leaks : (round : ℕ) (lists : List (List ℕ)) → map (λ (e : (ℕ × ℕ)
 of_leaks round [] = refl
 of_leaks round (first ∷ lists) =
     map_append (λ (e : (ℕ × ℕ) × Unit {0}). e.0.1) (leaks_in round first) (leaks_from (round + 1) lists)
-    ∙ ap (λ xs. xs ++ map (λ (e : (ℕ × ℕ) × Unit {0}). e.0.1) (leaks_from (round + 1) lists)) (map_map {B = (ℕ × ℕ) × Unit {0}} (λ a. ((round, a), tt)) (λ (e : (ℕ × ℕ) × Unit {0}). e.0.1) first ∙ map_same first)
+    ∙ ap (λ xs. xs ++ map (λ (e : (ℕ × ℕ) × Unit {0}). e.0.1) (leaks_from (round + 1) lists)) (map-map {Y = (ℕ × ℕ) × Unit {0}} (λ a. ((round, a), tt)) (λ (e : (ℕ × ℕ) × Unit {0}). e.0.1) first ∙ map_same first)
     ∙ ap (λ xs. first ++ xs) (of_leaks (round + 1) lists)
 
 announcing : (q : ℕ) (s : ScenarioValue) → occurs q (announcers_of (plan_of s)) ≡ occurs q (map (λ (a : Announcement). a.asn) s.announcements)
@@ -104,13 +101,13 @@ announcing q s =
     let entries = map (λ (a : Announcement). ((a.prefix, a.asn), a.path)) s.announcements in
     let keys = fin.keys (plan_of s).announced in
     occurs-from_entries nat_cmp_total fin.nat_cmp-IsAntisymmetric (λ (x : ℕ). x) q (map (λ x. (x.1, tt)) keys)
-    ∙ ap (occurs q) (map_map (λ (x : PrefixValue × ℕ). (x.1, tt)) (λ (e : ℕ × Unit {0}). e.0) keys ∙ map_map (λ (e : (PrefixValue × ℕ) × List ℕ). e.0) (λ (x : PrefixValue × ℕ). x.1) (fin.entries (plan_of s).announced))
+    ∙ ap (occurs q) (map-map (λ (x : PrefixValue × ℕ). (x.1, tt)) (λ (e : ℕ × Unit {0}). e.0) keys ∙ map-map (λ (e : (PrefixValue × ℕ) × List ℕ). e.0) (λ (x : PrefixValue × ℕ). x.1) (fin.entries (plan_of s).announced))
     ∙ occurs-from_entries announcement_total exact_announcement (λ (x : PrefixValue × ℕ). x.1) q entries
-    ∙ ap (occurs q) (map_map (λ (a : Announcement). ((a.prefix, a.asn), a.path)) (λ (e : (PrefixValue × ℕ) × List ℕ). e.0.1) s.announcements)
+    ∙ ap (occurs q) (map-map (λ (a : Announcement). ((a.prefix, a.asn), a.path)) (λ (e : (PrefixValue × ℕ) × List ℕ). e.0.1) s.announcements)
 
 leaking : (q : ℕ) (s : ScenarioValue) → occurs q (leakers (plan_of s)) ≡ occurs q (flat_map (λ leakers. leakers) s.leaks)
 leaking q s =
-    ap (occurs q) (map_map (λ (e : (ℕ × ℕ) × Unit {0}). e.0) (λ (l : ℕ × ℕ). l.1) (fin.entries (plan_of s).leakers))
+    ap (occurs q) (map-map (λ (e : (ℕ × ℕ) × Unit {0}). e.0) (λ (l : ℕ × ℕ). l.1) (fin.entries (plan_of s).leakers))
     ∙ occurs-from_entries pairs_total exact_pair (λ (l : ℕ × ℕ). l.1) q (leaks_from 2 s.leaks)
     ∙ ap (occurs q) (of_leaks 2 s.leaks)
 

@@ -14,7 +14,7 @@ ghost use Rattle.sim_core.specs.World.{named};
 
 use crate::changing::change;
 use crate::difference::Difference;
-use crate::marking::{set_mark, set_mark_back};
+use crate::marking::{room_for, set_mark, set_mark_back};
 use crate::naming::is_other;
 use crate::parts::Parts;
 use crate::{Changed, EditError, EditLimit};
@@ -112,11 +112,7 @@ impl Parts {
         let was = self.is_named(asn);
         let is = self.is_named_after(edit, asn);
         let touched = touched_unless(alloc, edit, asn, is)?;
-        match self.graph.room(asn, asn) {
-            Ok(()) => {}
-            Err(_) => return Err(EditError::Memory),
-        }
-        let there = self.graph.has(asn);
+        room_for(&mut self.graph, asn, asn)?;
         set_mark(&mut self.graph, asn, is)?;
         // `as_count` is called for its clause that no graph has more than 150,000 ASes.
         let _count = self.graph.as_count();
@@ -129,7 +125,7 @@ impl Parts {
         let difference = Difference {
             ends: &[asn],
             touched: &touched,
-            kept: there & self.graph.has(asn),
+            kept: true,
             edit: Some(edit),
         };
         let (ranks, rounds, watches) = (&mut self.ranks, &mut self.rounds, &mut self.watches);

@@ -5,7 +5,7 @@ ghost use Rattle.as_graph.specs.Prelude.{AsesAreKept, EditsAreUndone, LinksAreSe
 ghost use Rattle.cycle_check.specs.Prelude.{without_pair};
 ghost use Rattle.leak_round.specs.Prelude.{plan_of, pool_of};
 ghost use Rattle.path_pool.specs.Pool.{live_count};
-ghost use Rattle.rank_order.specs.Prelude.{RanksStay, StayWith, rank_at};
+ghost use Rattle.rank_order.specs.Prelude.{RanksStay};
 ghost use Rattle.scenario_text.specs.declared.acts.Edit.TheVariants.{Link, Unlink};
 ghost use Rattle.sim_core.specs.Editing.{BeginsWithLink, HasLinks, IsChanged, IsEditable, IsEditedQuickly, IsLinkStop, IsQuickChange, IsUnchanged, IsUndone, ground_of, links_with};
 ghost use Rattle.sim_core.specs.Edits.{IsEditRefusal};
@@ -14,6 +14,7 @@ ghost use Rattle.sim_core.specs.Ground.{BelongTo, DiffersAtPair, Ground as AGrou
 ghost use Rattle.sim_core.specs.Views.{world_seen};
 ghost use Rattle.leak_round.specs.declared.rounds.TheConstants.{MOST_CELLS};
 
+use crate::marking::room_for;
 use crate::parts::Parts;
 use crate::{Changed, EditError, EditLimit};
 use as_graph::{
@@ -105,10 +106,7 @@ impl Parts {
         ensures refused { IfErr result (IsEditRefusal (world_seen self.old) (Link a b rel)) }
     {
         self.is_small();
-        match self.graph.room(a, b) {
-            Ok(()) => {}
-            Err(_) => return Err(EditError::Memory),
-        }
+        room_for(&mut self.graph, a, b)?;
         match self.graph.link(a, b, rel) {
             Ok(()) => Ok(()),
             Err(GraphError::Memory) => Err(EditError::Memory),
@@ -135,19 +133,6 @@ impl Parts {
                 let _ = self.graph.unlink(a, b);
             }
         }
-    }
-
-    // Whether two ASes are in the graph.
-    fn has_both(&self, a: Asn, b: Asn) -> bool {
-        self.graph.has(a) && self.graph.has(b)
-    }
-
-    // Whether all ranks stay where the second of two ASes, so far `old` to the first, became `new`. `there` says that
-    // both are in the graph and were in it: else the order by rank is made anew.
-    fn keeps_ranks(&self, there: bool, a: Asn, b: Asn, old: Option<Rel>, new: Option<Rel>) -> bool
-        ensures { result ≡ true → StayWith (rank_at self.now.ranks a) (rank_at self.now.ranks b) old new }
-    {
-        there && self.ranks.bear(a, b, old, new)
     }
 
     // Takes what is kept to the graph in which the link of two ASes was edited. An end of it chooses anew only for
@@ -230,10 +215,9 @@ impl Parts {
     {
         link_laws();
         let old = self.graph.rel(a, b);
-        let there = self.has_both(a, b);
         self.set_link(a, b, rel)?;
         self.is_small();
-        let kept = self.keeps_ranks(there, a, b, old, Some(rel));
+        let kept = self.ranks.bear(a, b, old, Some(rel));
         match self.change_linked(alloc, a, b, rel, kept, steps) {
             Ok(changed) => Ok(changed),
             Err(error) => {
@@ -253,10 +237,7 @@ impl Parts {
         if self.graph.rel(a, b).is_none() {
             return Err(absent_link(a, b));
         }
-        match self.graph.room(a, b) {
-            Ok(()) => {}
-            Err(_) => return Err(EditError::Memory),
-        }
+        room_for(&mut self.graph, a, b)?;
         let _ = self.graph.unlink(a, b);
         Ok(())
     }
@@ -277,7 +258,7 @@ impl Parts {
         self.is_small();
         self.cut_link(a, b)?;
         self.is_small();
-        let kept = self.keeps_ranks(self.has_both(a, b), a, b, link, None);
+        let kept = self.ranks.bear(a, b, link, None);
         match self.change_ends(alloc, a, b, kept, steps) {
             Ok(changed) => Ok(changed),
             Err(_) => {

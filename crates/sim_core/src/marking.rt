@@ -1,6 +1,7 @@
-//! Marks of ASes that a graph has room for.
+//! Room in a graph, and marks of ASes that it has room for.
 ghost use Rattle.std.specs.Prelude.{◌≡◌, ◌<◌, ◌≤◌, true, IfErr, OnOk, OnErr};
 ghost use Rattle.as_graph.specs.Prelude.{is_room_with, as_count};
+ghost use Rattle.as_graph.specs.Room.{with_room};
 ghost use Rattle.sim_core.specs.Marking.{with_mark_if};
 ghost use Rattle.sim_core.specs.declared.errors.EditError.TheVariants as refused;
 ghost use Rattle.sim_core.specs.declared.errors.EditLimit.TheVariants.{Ases};
@@ -8,7 +9,18 @@ ghost use Rattle.as_graph.specs.declared.build.TheConstants.{MOST_ASES};
 
 use crate::{EditError, EditLimit};
 use as_graph::{Graph, GraphError};
-use net_names::Asn;
+use net_names::{Asn, NoMemory};
+
+/// Makes room for a pair of ASes, which may be equal, as `Graph::room` does.
+pub fn room_for(graph: &mut Graph, a: Asn, b: Asn) -> Result<(), NoMemory>
+    ensures ok { OnOk result (graph.new ≡ with_room graph.old a b) }
+    ensures err { OnErr result (graph.new ≡ graph.old) }
+{
+    match graph.room(a, b) {
+        Ok(()) => Ok(()),
+        Err(_) => Err(NoMemory),
+    }
+}
 
 /// Marks an AS, or takes its mark away.
 pub fn set_mark(graph: &mut Graph, asn: Asn, is_marked: bool) -> Result<(), EditError>

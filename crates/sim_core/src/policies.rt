@@ -14,6 +14,7 @@ ghost use Rattle.sim_core.specs.Views.{world_seen};
 ghost use Rattle.sim_core.specs.declared.errors.EditError.{EditError as AnEditError};
 ghost use Rattle.stability_laws.specs.Prelude.{policy_at, has_prefix};
 
+use crate::marking::room_for;
 use crate::naming::is_other;
 use crate::parts::Parts;
 use crate::readers::list_if_reads;
@@ -60,10 +61,8 @@ impl Parts {
     {
         list_if_reads(&mut self.readers, asn, kind)?;
         self.book.room(asn)?;
-        match self.graph.room(asn, asn) {
-            Ok(()) => Ok(()),
-            Err(_) => Err(NoMemory),
-        }
+        room_for(&mut self.graph, asn, asn)?;
+        Ok(())
     }
 
     // Gives an AS a policy other than the plain one, for which there is room.
@@ -169,12 +168,9 @@ impl Parts {
         self.is_small();
         let touched = self.touched_with(alloc, asn, kind)?;
         self.make_room(asn, kind)?;
-        let there = self.graph.has(asn);
         self.give(asn, kind)?;
         self.is_small();
-        // No link differs. The order by rank is kept only if it is still that of all ASes.
-        let kept = there & self.graph.has(asn);
-        match self.change_at(alloc, &[asn], &touched, kept, None, steps) {
+        match self.change_at(alloc, &[asn], &touched, true, None, steps) {
             Ok(changed) => Ok(changed),
             Err(_) => {
                 self.give_back(asn, was);

@@ -11,11 +11,8 @@ use as_graph::Graph;
 use net_names::{Asn, NoMemory};
 use policy_kinds::Kind;
 use scenario_text::{Announcement, Scenario};
-use stability_laws::{Book, SeedPlan};
+use stability_laws::{Book, FEW_NAMED, SeedPlan};
 use std::alloc::Global;
-
-// So many ASes with a policy of their own, at most, are looked at one after the other.
-const FEW: usize = 4;
 
 // Makes the ASes announce.
 fn announce_all(alloc: Global, plan: &mut SeedPlan, scenario: &Scenario) -> Result<(), NoMemory>
@@ -78,7 +75,7 @@ fn make_rows(book: &mut Book<Kind>, graph: &Graph, policies: &[(Asn, Kind)]) -> 
     ensures named { book.new.named ≡ book.old.named }
 {
     let others = policies.iter().filter(|policy| is_other(policy.1)).count();
-    if others <= FEW {
+    if others <= FEW_NAMED {
         return Ok(());
     }
     for asn in graph.rows() {

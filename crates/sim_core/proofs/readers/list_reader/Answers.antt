@@ -1,6 +1,6 @@
 use Rattle.std.proofs.Common.{◌∙◌, ap}
 use Rattle.net_names.specs.Numbers.{occurs}
-use Rattle.sim_core.proofs.Pushing.{pushed_more, pushed_own}
+use Rattle.net_names.proofs.Shared.{occurs_before, occurs_last}
 use Rattle.sim_core.proofs.Standing.{stands}
 use Rattle.sim_core.proofs.readers.list_reader.Goals as goal
 
@@ -14,7 +14,7 @@ pub returns-in_err-room-clause-more : goal.returns-in_err-room-clause-more
 returns-in_err-room-clause-more c = λ x h. ap (occurs x) c.room.ensures.same ∙ h
 
 pub returns-clause-this : goal.returns-clause-this
-returns-clause-this c = ap (occurs c.args.asn) c.add-place.ensures.list ∙ pushed_own c.room.new.self.ases c.args.asn
+returns-clause-this c = ap (occurs c.args.asn) c.add-place.ensures.list ∙ occurs_last c.room.new.self.ases c.args.asn
 
 pub returns-clause-more : goal.returns-clause-more
-returns-clause-more c = λ x h. ap (occurs x) c.add-place.ensures.list ∙ pushed_more x c.room.new.self.ases c.args.asn (ap (occurs x) c.room.ensures.same ∙ h)
+returns-clause-more c = λ x h. ap (occurs x) c.add-place.ensures.list ∙ occurs_before x c.room.new.self.ases c.args.asn (ap (occurs x) c.room.ensures.same ∙ h)

@@ -1,4 +1,4 @@
-use Rattle.std.proofs.Common.{◌≤◌, ap, subst}
+use Rattle.std.proofs.Common.{◌≤◌, subst}
 use Rattle.std.proofs.lemmas.Result.{err_from_is_err_and}
 use Rattle.as_graph.specs.Hierarchy.{IsRank}
 use Rattle.as_graph.specs.Topology.{Topology, as_count, relation}

@@ -7,7 +7,7 @@ use Rattle.sim_core.specs.Views.{world_seen}
 use Rattle.sim_core.specs.World.{graph_of}
 use Rattle.sim_core.specs.declared.errors.EditError.TheVariants as refused
 use Rattle.sim_core.proofs.Doing.{small_world}
-use Rattle.sim_core.proofs.LinkEdits.{back_linked, link_begun, link_stays, link_stopped, linked_now, links_undone, links_world, there_none}
+use Rattle.sim_core.proofs.LinkEdits.{back_linked, fits_any, if_none_any, link_begun, link_stays, link_stopped, linked_now, links_undone, links_world, there_none}
 use Rattle.sim_core.proofs.Outcomes.{changed_quickly, edit_refused}
 use Rattle.sim_core.proofs.parts.Parts.edit_link.Goals as goal
 
@@ -29,7 +29,7 @@ change_linked-requires-clause-stay g c =
     let mid = c.set_link.new.self in
     let laws = c.link_laws.ensures in
     link_stays laws.set laws.taken laws.kept laws.stay old mid c.args.a c.args.b (Some c.args.rel) c.requires.editable.right c.requires.editable.no_cycle c.requires.apart c.in_ok-set_link.ensures.ok c.rel-old.result (Some c.args.rel) c.rel-old.ensures
-    (linked_now laws.set old mid c.args.a c.args.b c.args.rel c.requires.apart c.in_ok-set_link.ensures.ok) c.keeps_ranks-kept.result c.keeps_ranks-kept.ensures
+    (linked_now laws.set old mid c.args.a c.args.b c.args.rel c.requires.apart c.in_ok-set_link.ensures.ok) c.bear-kept.result c.bear-kept.ensures.0
 
 pub returns-in-Ok : goal.returns-in-Ok
 returns-in-Ok g c =
@@ -38,6 +38,12 @@ returns-in-Ok g c =
     let h = c.in_ok-set_link.ensures.ok in
     changed_quickly old mid c.change_linked.new.self (Link c.args.a c.args.b c.args.rel) c.in-Ok.changed (λ p x. (x ≡ c.args.a) ⊎ (x ≡ c.args.b)) c.args.steps.now c.change_linked.new.steps (links_world old mid c.args.a c.args.b _ h) h.rest
     refl (small_world mid c.is_small.ensures) c.in-Ok.ensures.no_cycle c.in-Ok.ensures.changed c.in-Ok.ensures.quick (λ p x there. there)
+
+pub set_back-requires-clause-there : goal.set_back-requires-clause-there
+set_back-requires-clause-there g c = if_none_any c.rel-old.result (λ none. (let no : None ≡ Some c.args.rel = sym none ∙ (ap (λ (t : Topology). relation t c.args.a c.args.b) c.in-Err.ensures.err.graph ∙ linked_now c.link_laws.ensures.set c.args.self.now c.set_link.new.self c.args.a c.args.b c.args.rel c.requires.apart c.in_ok-set_link.ensures.ok) in cc))
+
+pub set_back-requires-clause-fits : goal.set_back-requires-clause-fits
+set_back-requires-clause-fits g c = fits_any c.change_linked.new.self.graph c.args.a c.args.b c.args.rel (ap (λ (t : Topology). relation t c.args.a c.args.b) c.in-Err.ensures.err.graph ∙ linked_now c.link_laws.ensures.set c.args.self.now c.set_link.new.self c.args.a c.args.b c.args.rel c.requires.apart c.in_ok-set_link.ensures.ok) c.rel-old.result
 
 pub returns-in-Err : goal.returns-in-Err
 returns-in-Err g c =

@@ -24,7 +24,7 @@ change_ends-requires-clause-stay g c =
     let mid = c.cut_link.new.self in
     let laws = c.link_laws.ensures in
     link_stays laws.set laws.taken laws.kept laws.stay old mid c.args.a c.args.b None c.requires.right c.requires.no_cycle (cut_apart laws.sound old c.args.a c.args.b c.in_ok-cut_link.ensures.there) c.in_ok-cut_link.ensures.ok c.rel-link.result None c.rel-link.ensures
-    (cut_none laws.taken old mid c.args.a c.args.b c.in_ok-cut_link.ensures.ok) c.keeps_ranks-kept.result c.keeps_ranks-kept.ensures
+    (cut_none laws.taken old mid c.args.a c.args.b c.in_ok-cut_link.ensures.ok) c.bear-kept.result c.bear-kept.ensures.0
 
 pub returns-in-Ok : goal.returns-in-Ok
 returns-in-Ok g c =

@@ -1,4 +1,4 @@
-use Rattle.std.proofs.Common.{◌≡◌, ◌∙◌, ◌||◌, ◌==◌, ℕ, true, IsTrue, Result, Ok, Err, OnErr, refl, sym, ap, subst}
+use Rattle.std.proofs.Common.{◌≡◌, ◌∙◌, ◌||◌, ◌==◌, ℕ, true, IsTrue, refl, sym, ap, subst}
 use Rattle.std.proofs.lemmas.Bool.{eq-eqb}
 use Rattle.std.specs.FinSet as set
 use Rattle.as_graph.specs.Room.{is_room_with}
@@ -7,11 +7,8 @@ use Rattle.policy_kinds.specs.declared.kind.Kind.{Kind}
 use Rattle.stability_laws.specs.Book.{PolicyBook}
 use Rattle.sim_core.proofs.Plans.{has_room}
 use Rattle.sim_core.proofs.PayloadEdits.{vrps_undone}
+use Rattle.net_names.proofs.Shared.{on_err}
 use Rattle.sim_core.proofs.parts.Parts.make_room.Goals as goal
-
-on_err : {T E P : Type 0} (r : Result T E) → P → OnErr r P
-on_err (Ok x) h = tt
-on_err (Err e) h = h
 
 own : (a : ℕ) → ((a == a) || (a == a)) ≡ true
 own a = ap (λ t. t || (a == a)) (eq-eqb a a refl)
@@ -20,11 +17,11 @@ pub returns-in_err-room-clause-err : goal.returns-in_err-room-clause-err
 returns-in_err-room-clause-err c =
     on_err c.from_residual-in_err-room.result (vrps_undone c.args.self.now _ refl (ap (λ (b : PolicyBook Kind). b.named) c.in_err-room.ensures.err) refl (record { ranks = refl; rounds = refl; watched = refl; watches = refl }))
 
-pub returns-in-Ok-clause-ok : goal.returns-in-Ok-clause-ok
-returns-in-Ok-clause-ok c = record {
-  links = ap (λ (t : Topology). t.links) c.in-Ok.ensures.ok;
-  marked = ap (λ (t : Topology). t.marked) c.in-Ok.ensures.ok;
-  graph_room = ap (λ (t : Topology). is_room_with t.room c.args.asn) c.in-Ok.ensures.ok ∙ own c.args.asn;
+pub returns-clause-ok : goal.returns-clause-ok
+returns-clause-ok c = record {
+  links = ap (λ (t : Topology). t.links) c.in_ok-room_for.ensures.ok;
+  marked = ap (λ (t : Topology). t.marked) c.in_ok-room_for.ensures.ok;
+  graph_room = ap (λ (t : Topology). is_room_with t.room c.args.asn) c.in_ok-room_for.ensures.ok ∙ own c.args.asn;
   named = ap (λ (b : PolicyBook Kind). b.named) c.in_ok-room.ensures.ok;
   book_room = subst (λ (b : PolicyBook Kind). IsTrue (set.contains b.room c.args.asn)) (sym c.in_ok-room.ensures.ok) (has_room c.args.self.now.book.room c.args.asn);
   readers = c.list_if_reads.ensures.more;
@@ -34,3 +31,7 @@ returns-in-Ok-clause-ok c = record {
 
 pub returns-in_err-list_if_reads-clause-err : goal.returns-in_err-list_if_reads-clause-err
 returns-in_err-list_if_reads-clause-err c = on_err c.from_residual.result (vrps_undone c.args.self.now _ refl refl refl (record { ranks = refl; rounds = refl; watched = refl; watches = refl }))
+
+pub returns-in_err-room_for-clause-err : goal.returns-in_err-room_for-clause-err
+returns-in_err-room_for-clause-err c =
+    on_err c.from_residual-in_err-room_for.result (vrps_undone c.args.self.now _ (ap (λ (t : Topology). t.links) c.in_err-room_for.ensures.err) (ap (λ (b : PolicyBook Kind). b.named) c.in_ok-room.ensures.ok) refl (record { ranks = refl; rounds = refl; watched = refl; watches = refl }))
