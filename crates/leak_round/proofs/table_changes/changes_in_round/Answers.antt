@@ -7,7 +7,7 @@ use Rattle.route_choice.specs.declared.table.Table.{Table}
 use Rattle.route_choice.specs.RoundTables.{PutsTable}
 use Rattle.stability_laws.specs.World.{setting_in}
 use Rattle.leak_round.specs.Overlays.{table_in}
-use Rattle.leak_round.specs.Found.{AreTableChanges, CanFindInTable, IsRoomed}
+use Rattle.leak_round.specs.Found.{AreRoomed, AreSame, AreTableChanges, CanFindInTable, IsRoomed}
 use Rattle.leak_round.proofs.Listing.{some_of}
 use Rattle.leak_round.proofs.Roomed.{all_same, of_both, read_back, roomed}
 use Rattle.leak_round.proofs.table_changes.changes_in_round.Given as given
@@ -32,21 +32,23 @@ in_round g c = record {
   same = c.changes_of_table.ensures.same;
 }
 
-pub returns-clause-roomed : goal.returns-clause-roomed
-returns-clause-roomed g c =
+-- so one table has perhaps more room, and all entries stay
+both : (g : given.Over) (c : After-changes_of_table g) → AreRoomed c.args.tables.now.items (set c.args.tables.now.items (c.args.at.now.round - 1) (c.table_mut.follows.lender c.changes_of_table.new.table)) c.args.at.now.round c.args.at.now.prefix
+    × AreSame c.args.tables.now.items (set c.args.tables.now.items (c.args.at.now.round - 1) (c.table_mut.follows.lender c.changes_of_table.new.table))
+both g c =
     let at = c.args.at.now in
     let old = c.args.tables.now.items in
     let (t, there) = some_of (table_in old at.round at.prefix) c.requires.there in
-    let room = in_round g (goal.at.returns-clause-roomed g c).After-changes_of_table in
-    roomed old at.round at.prefix c.index_mut.result.now c.index_mut.ensures.value t there (c.table_mut.follows.lender c.changes_of_table.new.table) room
+    let after = c.table_mut.follows.lender c.changes_of_table.new.table in (
+      roomed old at.round at.prefix c.index_mut.result.now c.index_mut.ensures.value t there after (in_round g c),
+      all_same old at.round at.prefix c.index_mut.result.now c.index_mut.ensures.value t there after (in_round g c),
+    )
+
+pub returns-clause-roomed : goal.returns-clause-roomed
+returns-clause-roomed g c = (both g (goal.at.returns-clause-roomed g c).After-changes_of_table).0
 
 pub returns-clause-same : goal.returns-clause-same
-returns-clause-same g c =
-    let at = c.args.at.now in
-    let old = c.args.tables.now.items in
-    let (t, there) = some_of (table_in old at.round at.prefix) c.requires.there in
-    let room = in_round g (goal.at.returns-clause-same g c).After-changes_of_table in
-    all_same old at.round at.prefix c.index_mut.result.now c.index_mut.ensures.value t there (c.table_mut.follows.lender c.changes_of_table.new.table) room
+returns-clause-same g c = (both g (goal.at.returns-clause-same g c).After-changes_of_table).1
 
 pub returns-clause-found : goal.returns-clause-found
 unfolding roomed in_round
