@@ -1,4 +1,4 @@
-use Rattle.std.proofs.Common.{arith, true, refl, ◌≡◌, ℕ, ◌+◌, ◌-◌, ◌<◌, length, take, sym, subst, ap, ◌∙◌}
+use Rattle.std.proofs.Common.{arith, true, refl, ◌≡◌, ◌+◌, ◌-◌, ◌<◌, length, take, sym, subst, ap, ◌∙◌}
 use Rattle.std.proofs.lemmas.List.{get_or_read, take_all}
 use Rattle.net_names.specs.Numbers.{occurs}
 use Rattle.as_graph.specs.Topology.{relation}

@@ -15,13 +15,9 @@ use Rattle.route_choice.specs.declared.choice.Part.TheVariants.{Whole}
 use Rattle.route_choice.specs.Givers.{AreGivers}
 use Rattle.route_choice.specs.Leads.{ArePlainSenders, IsOffered}
 use Rattle.route_choice.specs.PrefixWorlds.{setting_at}
-use Rattle.three_pass.specs.Lists.{list_at}
-use Rattle.three_pass.specs.Told.{IsTold}
-use Rattle.three_pass.proofs.ByRank.{all_lawful}
 use Rattle.three_pass.proofs.Idle.{idle, unmoved}
 use Rattle.three_pass.proofs.Origins.{none_of}
-use Rattle.three_pass.proofs.Passings.{above_at}
-use Rattle.three_pass.proofs.Quiet.{givers}
+use Rattle.three_pass.proofs.Passings.{untold_givers}
 use Rattle.three_pass.proofs.pass.Passing.step_down.Goals as goal
 
 -- who holds something holds an entry
@@ -74,14 +70,10 @@ returns-then-takes_none-clause-visit g c =
 
 pub visit_providers-requires-clause-givers : goal.visit_providers-requires-clause-givers
 visit_providers-requires-clause-givers g c =
-    let above = above_at g.P.RoutePolicy.meaning c.args.self.now c.args.placed.asn c.args.placed.place c.requires.passing c.requires.ready.inside c.requires.ready.there in
-    let w = relation c.args.self.now.at.graph.now in
-    let here = setting_at g.P.RoutePolicy.meaning g.V.OriginStates.state_of c.args.self.now.at in
-    let lawful = all_lawful g.P.RoutePolicy.meaning g.met.P.RoutePolicy.ranks_offers g.met.P.RoutePolicy.prefers_customers g.met.P.RoutePolicy.exports_down_only (policy_at c.args.self.now.at.book.now) in
-    let f = routing_of c.args.pool.now c.args.self.now.at.table.now c.args.overlay.now in
-    subst (AreGivers Whole w here.policy f c.args.placed.asn) (sym c.list-above.ensures)
-    (givers here lawful f c.args.placed.asn Whole (IsTold c.args.gathered.now.told) (list_at c.args.self.now.course.now.above c.args.placed.place) c.requires.ready.told
-    above.each (λ b told. absurd (c.is_plainly_untold.ensures.untold c.if-is_plainly_untold.true b told)) (λ whole. above.complete))
+    let at = c.args.self.now.at in
+    subst (AreGivers Whole (relation at.graph.now) (λ n. g.P.RoutePolicy.meaning (policy_at at.book.now n)) (routing_of c.args.pool.now at.table.now c.args.overlay.now) c.args.placed.asn) (sym c.list-above.ensures)
+    (untold_givers g.P.RoutePolicy.meaning g.met.P.RoutePolicy.ranks_offers g.met.P.RoutePolicy.prefers_customers g.met.P.RoutePolicy.exports_down_only g.V.OriginStates.state_of c.args.self.now c.args.gathered.now.told c.args.pool.now c.args.overlay.now
+    Whole c.args.placed.asn c.args.placed.place c.requires.passing c.requires.ready (c.is_plainly_untold.ensures.untold c.if-is_plainly_untold.true))
 
 pub visit_providers-requires-clause-no_loops : goal.visit_providers-requires-clause-no_loops
 visit_providers-requires-clause-no_loops g c =

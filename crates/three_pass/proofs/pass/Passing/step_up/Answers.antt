@@ -1,4 +1,4 @@
-use Rattle.std.proofs.Common.{arith, inl, ℕ, true, ◌≡◌, ◌==◌, ◌∙◌, option_map, ap, refl, sym, subst}
+use Rattle.std.proofs.Common.{inl, true, ◌≡◌, ◌==◌, ◌∙◌, option_map, ap, refl, sym, subst}
 use Rattle.std.proofs.lemmas.Bool.{eq-eqb}
 use Rattle.std.proofs.lemmas.List.Folds.{list_any_at}
 use Rattle.net_names.specs.Numbers.{occurs}
