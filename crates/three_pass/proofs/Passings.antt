@@ -19,7 +19,7 @@ use Rattle.three_pass.specs.Lists.{AreProviders, list_at}
 use Rattle.three_pass.specs.Passings.{IsPassing, IsReady, order_of, routing_in}
 use Rattle.three_pass.specs.Told.{IsTold}
 use Rattle.three_pass.specs.Ways.{ArePlainMarks}
-use Rattle.three_pass.proofs.ByRank.{all_lawful}
+use Rattle.three_pass.proofs.ByRank.{IsByRank, all_lawful, by_rank}
 use Rattle.three_pass.proofs.Quiet.{givers}
 
 -- the list at a place has the providers of the AS there
@@ -45,3 +45,8 @@ passing_is meaning p marks no_cycle course same plain unnamed = record {
   plain = subst (ArePlainMarks (λ a. meaning (policy_at p.at.book.now a)) p.course.now) (sym same) plain;
   unnamed = unnamed;
 }
+
+-- the order has the laws by which the passes go along it
+pub ranked_by : {P V : Type 0} (meaning : P → Policy) (ranks_offers : (x : P) → RanksOffers (meaning x)) (prefers_customers : (x : P) → PrefersCustomers (meaning x)) (exports_down_only : (x : P) → ExportsDownOnly (meaning x))
+    (state_of : V → Prefix → ℕ → State) (p : Passing P V) → IsPassing meaning p → IsByRank (setting_at meaning state_of p.at) (order_of p)
+ranked_by meaning ranks_offers prefers_customers exports_down_only state_of p passing = by_rank meaning ranks_offers prefers_customers exports_down_only state_of p.at p.course.now passing.no_cycle passing.course
