@@ -29,9 +29,9 @@ above_at meaning p a k passing inside there = subst (λ (b : ℕ). AreProviders 
 -- an AS that was told nothing gets offers from its providers alone
 pub untold_givers : {P V : Type 0} (meaning : P → Policy) (ranks_offers : (x : P) → RanksOffers (meaning x)) (prefers_customers : (x : P) → PrefersCustomers (meaning x)) (exports_down_only : (x : P) → ExportsDownOnly (meaning x))
     (state_of : V → Prefix → ℕ → State) (p : Passing P V) (notes : Told) (pool : PathPool) (overlay : Overlay) (part : Part) (a k : ℕ)
-    → IsPassing meaning p → IsReady meaning state_of p notes pool overlay part a k → ((b : ℕ) → ¬ IsTold notes a b) → AreGiversAt meaning p.at pool overlay part a (list_at p.course.now.above k)
-untold_givers meaning ranks_offers prefers_customers exports_down_only state_of p notes pool overlay part a k passing ready untold =
-    let above = above_at meaning p a k passing ready.inside ready.there in
+    → IsReady meaning state_of p notes pool overlay part a k → ((b : ℕ) → ¬ IsTold notes a b) → AreGiversAt meaning p.at pool overlay part a (list_at p.course.now.above k)
+untold_givers meaning ranks_offers prefers_customers exports_down_only state_of p notes pool overlay part a k ready untold =
+    let above = above_at meaning p a k ready.passing ready.inside ready.there in
     let lawful = all_lawful meaning ranks_offers prefers_customers exports_down_only (policy_at p.at.book.now) in
     givers (setting_at meaning state_of p.at) lawful (routing_in p pool overlay) a part (IsTold notes) (list_at p.course.now.above k) ready.told
     above.each (λ b told. absurd (untold b told)) (λ whole. above.complete)

@@ -1,6 +1,5 @@
-use Rattle.std.proofs.Common.{arith, true, refl, ◌≡◌, ◌+◌, ◌-◌, ◌<◌, length, take, sym, subst, ap, ◌∙◌}
+use Rattle.std.proofs.Common.{arith, refl, ◌≡◌, ◌+◌, ◌-◌, take, sym, subst, ◌∙◌}
 use Rattle.std.proofs.lemmas.List.{get_or_read, take_all}
-use Rattle.net_names.specs.Numbers.{occurs}
 use Rattle.as_graph.specs.Topology.{relation}
 use Rattle.stability_laws.specs.Steps.{IsStepWhole}
 use Rattle.route_choice.specs.declared.choice.Part.TheVariants.{Whole}
@@ -57,6 +56,7 @@ step_down-requires-clause-ready g c =
     let f = routing_in p c.loop-left.pool c.loop-left.overlay in
     let within = (next g before).within in
     record {
+      passing = c.requires.passing;
       inside = within;
       there = sym (get_or_read (order_of p) (c.loop-left.left - 1) a within c.index-asn.ensures 0);
       can = can_step c.loop-left.pool p.at.seeds.now p.at.table.now c.loop-left.overlay (order_of p) c.loop-left.invariant.room (omega (arith, within));

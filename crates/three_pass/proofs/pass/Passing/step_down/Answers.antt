@@ -49,16 +49,16 @@ pub visit_providers-requires-clause-nothing : goal.visit_providers-requires-clau
 visit_providers-requires-clause-nothing g c = joined_none c.args.pool.now (joined c.args.self.now.at.table.now c.args.overlay.now c.args.placed.asn) (sym c.holds.ensures ∙ c.if-holds.false)
 
 pub visit_providers-requires-clause-unseeded : goal.visit_providers-requires-clause-unseeded
-visit_providers-requires-clause-unseeded g c = c.requires.passing.unnamed c.args.placed.asn (sym c.has-may_loop.ensures.value ∙ c.is_plainly_untold.ensures.unnamed c.if-is_plainly_untold.true)
+visit_providers-requires-clause-unseeded g c = c.requires.ready.passing.unnamed c.args.placed.asn (sym c.has-may_loop.ensures.value ∙ c.is_plainly_untold.ensures.unnamed c.if-is_plainly_untold.true)
 
 pub visit_providers-requires-clause-own : goal.visit_providers-requires-clause-own
 visit_providers-requires-clause-own g c =
-    let marked = c.requires.passing.plain c.args.placed.place (c.is_plainly_untold.ensures.marked c.if-is_plainly_untold.true) in
+    let marked = c.requires.ready.passing.plain c.args.placed.place (c.is_plainly_untold.ensures.marked c.if-is_plainly_untold.true) in
     subst (λ a. IsPlain (g.P.RoutePolicy.meaning (policy_at c.args.self.now.at.book.now a))) c.requires.ready.there marked.0
 
 pub visit_providers-requires-clause-plain : goal.visit_providers-requires-clause-plain
 visit_providers-requires-clause-plain g c =
-    let marked = c.requires.passing.plain c.args.placed.place (c.is_plainly_untold.ensures.marked c.if-is_plainly_untold.true) in
+    let marked = c.requires.ready.passing.plain c.args.placed.place (c.is_plainly_untold.ensures.marked c.if-is_plainly_untold.true) in
     subst (ArePlainProviders (λ n. g.P.RoutePolicy.meaning (policy_at c.args.self.now.at.book.now n))) (sym c.list-above.ensures) marked.1
 
 pub visit_providers-requires-clause-givers : goal.visit_providers-requires-clause-givers
@@ -66,7 +66,7 @@ visit_providers-requires-clause-givers g c =
     let at = c.args.self.now.at in
     subst (AreGivers Whole (relation at.graph.now) (λ n. g.P.RoutePolicy.meaning (policy_at at.book.now n)) (routing_of c.args.pool.now at.table.now c.args.overlay.now) c.args.placed.asn) (sym c.list-above.ensures)
     (untold_givers g.P.RoutePolicy.meaning g.met.P.RoutePolicy.ranks_offers g.met.P.RoutePolicy.prefers_customers g.met.P.RoutePolicy.exports_down_only g.V.OriginStates.state_of c.args.self.now c.args.gathered.now.told c.args.pool.now c.args.overlay.now
-    Whole c.args.placed.asn c.args.placed.place c.requires.passing c.requires.ready (c.is_plainly_untold.ensures.untold c.if-is_plainly_untold.true))
+    Whole c.args.placed.asn c.args.placed.place c.requires.ready (c.is_plainly_untold.ensures.untold c.if-is_plainly_untold.true))
 
 pub visit_providers-requires-clause-no_loops : goal.visit_providers-requires-clause-no_loops
 visit_providers-requires-clause-no_loops g c =
@@ -82,7 +82,7 @@ pub step-requires-clause-nothing : goal.step-requires-clause-nothing
 step-requires-clause-nothing g c = joined_none c.args.pool.now (joined c.args.self.now.at.table.now c.args.overlay.now c.args.placed.asn) (sym c.holds.ensures ∙ c.if-holds.false)
 
 pub list-above-requires : goal.list-above-requires
-list-above-requires g c = omega (arith, c.requires.ready.inside, c.requires.passing.course.above.count)
+list-above-requires g c = omega (arith, c.requires.ready.inside, c.requires.ready.passing.course.above.count)
 
 pub places-above_places-requires : goal.places-above_places-requires
-places-above_places-requires g c = omega (arith, c.requires.ready.inside, c.requires.passing.course.above.count)
+places-above_places-requires g c = omega (arith, c.requires.ready.inside, c.requires.ready.passing.course.above.count)
