@@ -46,66 +46,75 @@ unfolding IsDistinct
 no_rows g next label ases hops marks groups e none =
     subst (λ (ks : List ℕ). AreRows g next label (rows ks hops marks groups)) (sym e) (record { listed = λ a. sym (none a); apart = tt; right = λ place r q. absurd (none_some r q) })
 
-module _ (g : Topology) (next : ℕ → Hop) (label : ℕ → ℕ) (changed regrouped : List ℕ) (inside : (a b : ℕ) → next a ≡ hop.To b → has g b ≡ true)
-    (old new : List ℕ) (hops hops' : List PlaceHop) (marks : List Mark) (groups groups' groups'' : List Group)
-    (comes : Comes g regrouped old new) (apart : IsDistinct nat_eq old) (hops_len : length hops ≡ length old) (within : IsWithin hops) (absent : (x : ℕ) → here_at groups x ≡ false → hop_at hops x ≡ NoRoute)
-    (keeps_hops : KeepsHops g next changed regrouped (rows old hops marks groups)) (keeps_groups : KeepsGroups g label regrouped (rows old hops marks groups))
-    (hops_same : (x : ℕ) → hop_at hops' x ≡ hop_at hops x) (groups_same : (x : ℕ) → group_at groups' x ≡ group_at groups x) where
+-- The watch at the places of `old` becomes that at the places of `new`: next hops outside `changed` and `regrouped` and groups outside `regrouped` were right.
+pub record IsUpdate (g : Topology) (next : ℕ → Hop) (label : ℕ → ℕ) (changed regrouped old new : List ℕ) (hops hops' : List PlaceHop) (marks : List Mark) (groups groups' : List Group) : Type 0 where
+  pub inside : (a b : ℕ) → next a ≡ hop.To b → has g b ≡ true
+  pub comes : Comes g regrouped old new
+  pub apart : IsDistinct nat_eq old
+  pub hops_len : length hops ≡ length old
+  pub within : IsWithin hops
+  pub absent : (x : ℕ) → here_at groups x ≡ false → hop_at hops x ≡ NoRoute
+  pub keeps_hops : KeepsHops g next changed regrouped (rows old hops marks groups)
+  pub keeps_groups : KeepsGroups g label regrouped (rows old hops marks groups)
+  pub hops_same : (x : ℕ) → hop_at hops' x ≡ hop_at hops x
+  pub groups_same : (x : ℕ) → group_at groups' x ≡ group_at groups x
+
+module _ {g : Topology} {next : ℕ → Hop} {label : ℕ → ℕ} {changed regrouped old new : List ℕ} {hops hops' : List PlaceHop} {marks : List Mark} {groups groups' : List Group} (u : IsUpdate g next label changed regrouped old new hops hops' marks groups groups') where
   -- an AS that is not in the list had its place before
   old_place : (x : ℕ) → x < length new → occurs (name_at new x) regrouped ≡ false → x < length old
-  old_place x l o = ⊎_elim (λ k. k) (λ (k : length old ≤ x). absurd (true≢false (sym (comes.among x k l) ∙ o))) (cases_lt x (length old))
+  old_place x l o = ⊎_elim (λ k. k) (λ (k : length old ≤ x). absurd (true≢false (sym (u.comes.among x k l) ∙ o))) (cases_lt x (length old))
 
   -- every AS of the graph has a place
   pub all_there : (a : ℕ) → has g a ≡ true → occurs a new ≡ true
-  all_there a h = ⊎_elim (λ (o : occurs a regrouped ≡ true). comes.there a o h) (λ (o : occurs a regrouped ≡ false). kept o) (cases_Bool (occurs a regrouped))
+  all_there a h = ⊎_elim (λ (o : occurs a regrouped ≡ true). u.comes.there a o h) (λ (o : occurs a regrouped ≡ false). kept o) (cases_Bool (occurs a regrouped))
     where
       kept : occurs a regrouped ≡ false → occurs a new ≡ true
       kept o =
-          let q : (x : ℕ) × (x < length old) × (here_at groups x ≡ true) × (name_at old x ≡ a) = listed_in old hops marks groups a (keeps_groups.presence a o ∙ h) in
-          subst (λ b. occurs b new ≡ true) (comes.stay q.0 q.1 ∙ q.3) (occurs_at new q.0 (omega (arith, q.1, comes.more)))
+          let q : (x : ℕ) × (x < length old) × (here_at groups x ≡ true) × (name_at old x ≡ a) = listed_in old hops marks groups a (u.keeps_groups.presence a o ∙ h) in
+          subst (λ b. occurs b new ≡ true) (u.comes.stay q.0 q.1 ∙ q.3) (occurs_at new q.0 (omega (arith, q.1, u.comes.more)))
 
   -- a place of the old watch whose AS is not in the list is there exactly where the AS is in the graph
   still_here : (x : ℕ) → x < length old → occurs (name_at old x) regrouped ≡ false → here_at groups x ≡ has g (name_at old x)
   still_here x l o = by (cases_Bool (here_at groups x)) (cases_Bool (has g (name_at old x)))
     where
       by : (here_at groups x ≡ true) ⊎ (here_at groups x ≡ false) → (has g (name_at old x) ≡ true) ⊎ (has g (name_at old x) ≡ false) → here_at groups x ≡ has g (name_at old x)
-      by (inl h) k = h ∙ sym (sym (keeps_groups.presence (name_at old x) o) ∙ listed_there old hops marks groups x l h)
+      by (inl h) k = h ∙ sym (sym (u.keeps_groups.presence (name_at old x) o) ∙ listed_there old hops marks groups x l h)
       by (inr h) (inr k) = h ∙ sym k
       by (inr h) (inl k) =
-          let q : (y : ℕ) × (y < length old) × (here_at groups y ≡ true) × (name_at old y ≡ name_at old x) = listed_in old hops marks groups (name_at old x) (keeps_groups.presence (name_at old x) o ∙ k) in
-          absurd (true≢false (sym q.2 ∙ ap (here_at groups) (one_place old q.0 x apart q.1 l q.3) ∙ h))
+          let q : (y : ℕ) × (y < length old) × (here_at groups y ≡ true) × (name_at old y ≡ name_at old x) = listed_in old hops marks groups (name_at old x) (u.keeps_groups.presence (name_at old x) o ∙ k) in
+          absurd (true≢false (sym q.2 ∙ ap (here_at groups) (one_place old q.0 x u.apart q.1 l q.3) ∙ h))
 
   -- the next hops outside the two lists are right already
   pub hops_right : (x : ℕ) → x < length new → occurs (name_at new x) changed ≡ false → occurs (name_at new x) regrouped ≡ false → named new (hop_at hops' x) ≡ fresh g next (name_at new x)
-  hops_right x l c o = ap (named new) (hops_same x) ∙ named_same old new (hop_at hops x) (λ y e. comes.stay y (omega (arith, within x y e, hops_len))) ∙ right ∙ ap (fresh g next) (sym (comes.stay x k))
+  hops_right x l c o = ap (named new) (u.hops_same x) ∙ named_same old new (hop_at hops x) (λ y e. u.comes.stay y (omega (arith, u.within x y e, u.hops_len))) ∙ right ∙ ap (fresh g next) (sym (u.comes.stay x k))
     where
       k : x < length old
       k = old_place x l o
 
       same : name_at new x ≡ name_at old x
-      same = comes.stay x (old_place x l o)
+      same = u.comes.stay x (old_place x l o)
 
       out : occurs (name_at old x) regrouped ≡ false
-      out = ap (λ a. occurs a regrouped) (sym (comes.stay x (old_place x l o))) ∙ o
+      out = ap (λ a. occurs a regrouped) (sym (u.comes.stay x (old_place x l o))) ∙ o
 
       right : named old (hop_at hops x) ≡ fresh g next (name_at old x)
       right = by (cases_Bool (has g (name_at old x)))
         where
           by : (has g (name_at old x) ≡ true) ⊎ (has g (name_at old x) ≡ false) → named old (hop_at hops x) ≡ fresh g next (name_at old x)
-          by (inl h) = keeps_hops (name_at old x) (row old hops marks groups x) h (ap (λ a. occurs a changed) (sym same) ∙ c) out (row_there old hops marks groups x k (still_here x k out ∙ h)) ∙ sym (fresh_is g next inside (name_at old x) h)
-          by (inr h) = ap (named old) (absent x (still_here x k out ∙ h)) ∙ sym (ap (λ v. cond v (next (name_at old x)) hop.NoRoute) h)
+          by (inl h) = u.keeps_hops (name_at old x) (row old hops marks groups x) h (ap (λ a. occurs a changed) (sym same) ∙ c) out (row_there old hops marks groups x k (still_here x k out ∙ h)) ∙ sym (fresh_is g next u.inside (name_at old x) h)
+          by (inr h) = ap (named old) (u.absent x (still_here x k out ∙ h)) ∙ sym (ap (λ v. cond v (next (name_at old x)) hop.NoRoute) h)
 
-  module _ (gs_len : length groups'' ≡ length new) (gs_new : (x : ℕ) → x < length new → occurs (name_at new x) regrouped ≡ true → IsGroup g label (name_at new x) (group_at groups'' x))
+  module _ (groups'' : List Group) (gs_len : length groups'' ≡ length new) (gs_new : (x : ℕ) → x < length new → occurs (name_at new x) regrouped ≡ true → IsGroup g label (name_at new x) (group_at groups'' x))
       (gs_old : (x : ℕ) → x < length new → occurs (name_at new x) regrouped ≡ false → group_at groups'' x ≡ group_at groups' x) where
     kept_group : (x : ℕ) → x < length new → occurs (name_at new x) regrouped ≡ false → IsGroup g label (name_at new x) (group_at groups'' x)
-    kept_group x l o = subst (λ (t : Group). IsGroup g label (name_at new x) t) (sym (gs_old x l o ∙ groups_same x)) (subst (λ a. IsGroup g label a (group_at groups x)) (sym (comes.stay x (old_place x l o))) (record {
+    kept_group x l o = subst (λ (t : Group). IsGroup g label (name_at new x) t) (sym (gs_old x l o ∙ u.groups_same x)) (subst (λ a. IsGroup g label a (group_at groups x)) (sym (u.comes.stay x (old_place x l o))) (record {
       here = still_here x (old_place x l o) out;
-      stub = λ h. keeps_groups.stub (name_at old x) (row old hops marks groups x) out (there h);
-      label_is = λ h. keeps_groups.group (name_at old x) (row old hops marks groups x) out (there h);
+      stub = λ h. u.keeps_groups.stub (name_at old x) (row old hops marks groups x) out (there h);
+      label_is = λ h. u.keeps_groups.group (name_at old x) (row old hops marks groups x) out (there h);
     }))
       where
         out : occurs (name_at old x) regrouped ≡ false
-        out = ap (λ a. occurs a regrouped) (sym (comes.stay x (old_place x l o))) ∙ o
+        out = ap (λ a. occurs a regrouped) (sym (u.comes.stay x (old_place x l o))) ∙ o
 
         there : has g (name_at old x) ≡ true → IsRowOf (rows old hops marks groups) (name_at old x) (row old hops marks groups x)
         there h = row_there old hops marks groups x (old_place x l o) (still_here x (old_place x l o) out ∙ h)
@@ -119,4 +128,4 @@ module _ (g : Topology) (next : ℕ → Hop) (label : ℕ → ℕ) (changed regr
         (λ (k : length new ≤ x). get_or_past hops'' x NoRoute (omega (arith, k, h.len))) (cases_lt x (length new))
 
     pub updated_rows : (hops'' : List PlaceHop) (marks'' : List Mark) → IsDistinct nat_eq new → AreHops (fresh g next) new hops'' → AreEnds (next_of hops'') (length hops'') marks'' → AreRows g next label (rows new hops'' marks'' groups'')
-    updated_rows hops'' marks'' d h ends = are_rows g next label new hops'' marks'' groups'' (record { listed = all_there; apart = d }) h inside all_grouped ends
+    updated_rows hops'' marks'' d h ends = are_rows g next label new hops'' marks'' groups'' (record { listed = all_there; apart = d }) h u.inside all_grouped ends

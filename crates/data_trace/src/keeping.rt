@@ -6,15 +6,16 @@ ghost use Rattle.data_trace.specs.Lists.{AreNone};
 
 use crate::lists::{link_all, none_links, put_last};
 use crate::packed::PackedHop;
+use crate::places::Lead;
 use std::alloc::{AllocError, Global};
 
 /// For each place the places that send to it, in lists that go through the places, and room for the
 /// places that an update goes through.
 #[derive(Drop)]
 pub struct Lists {
-    pub first: Vec<Option<u32>>,
-    pub before: Vec<Option<u32>>,
-    pub after: Vec<Option<u32>>,
+    pub first: Vec<Lead>,
+    pub before: Vec<Lead>,
+    pub after: Vec<Lead>,
     pub queue: Vec<u32>,
     pub path: Vec<u32>,
 }
@@ -52,9 +53,9 @@ impl Lists {
     // The lists of all places, in these columns.
     fn linked(
         hops: &[PackedHop],
-        mut first: Vec<Option<u32>>,
-        mut before: Vec<Option<u32>>,
-        mut after: Vec<Option<u32>>,
+        mut first: Vec<Lead>,
+        mut before: Vec<Lead>,
+        mut after: Vec<Lead>,
         queue: Vec<u32>,
         path: Vec<u32>,
     ) -> Lists

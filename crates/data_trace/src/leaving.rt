@@ -12,20 +12,14 @@ use crate::columns::Columns;
 use crate::keeping::Lists;
 use crate::lists::put_link;
 use crate::packed::{PackedHop, hop_in, mark_in, put_hop};
-use crate::places::{Mark, PlaceHop};
+use crate::places::{Lead, Mark, PlaceHop};
 use crate::source::Source;
 use crate::spreading::forget_place;
 use as_places::AsPlaces;
 use net_names::Asn;
 
 // Takes `a` out of the list of `b`.
-fn unlink(
-    first: &mut [Option<u32>],
-    before: &mut [Option<u32>],
-    after: &mut [Option<u32>],
-    a: u32,
-    b: u32,
-)
+fn unlink(first: &mut [Lead], before: &mut [Lead], after: &mut [Lead], a: u32, b: u32)
     requires a_inside { (a < length before.old) × (a < length after.old) }
     requires b_inside { b < length first.old }
     requires before_below { AreBelow before.old (length after.old) }
@@ -42,13 +36,7 @@ fn unlink(
 }
 
 // Takes `a` out of its list, if it stands in one.
-fn leave(
-    hops: &[PackedHop],
-    first: &mut [Option<u32>],
-    before: &mut [Option<u32>],
-    after: &mut [Option<u32>],
-    a: u32,
-)
+fn leave(hops: &[PackedHop], first: &mut [Lead], before: &mut [Lead], after: &mut [Lead], a: u32)
     requires inside { a < length hops.now }
     requires within { IsWithin hops.now }
     requires lists { (queue : List ℕ) × HasLists hops.now queue first.old before.old after.old }

@@ -7,11 +7,11 @@ ghost use Rattle.data_trace.specs.Marks.{IsWithin};
 ghost use Rattle.data_trace.specs.Lists.{link_at, AreBelow, LinksFirst, HasLists, AreNone};
 
 use crate::packed::{PackedHop, hop_in};
-use crate::places::PlaceHop;
+use crate::places::{Lead, PlaceHop};
 use std::alloc::{AllocError, Global};
 
 /// Writes `value` at `at`, if that is a place.
-pub fn put_link(links: &mut [Option<u32>], at: Option<u32>, value: Option<u32>)
+pub fn put_link(links: &mut [Lead], at: Lead, value: Lead)
     requires { IfSome at (λ a. a < length links.old) }
     ensures this { (x : ℕ) → at ≡ Some x → link_at links.new x ≡ value }
     ensures others { (x : ℕ) → at ≢ Some x → link_at links.new x ≡ link_at links.old x }
@@ -22,13 +22,7 @@ pub fn put_link(links: &mut [Option<u32>], at: Option<u32>, value: Option<u32>)
 }
 
 // Puts `a` at the head of the list of `b`.
-fn link(
-    first: &mut [Option<u32>],
-    before: &mut [Option<u32>],
-    after: &mut [Option<u32>],
-    a: u32,
-    b: u32,
-)
+fn link(first: &mut [Lead], before: &mut [Lead], after: &mut [Lead], a: u32, b: u32)
     requires a_inside { (a < length before.old) × (a < length after.old) }
     requires b_inside { b < length first.old }
     requires first_below { AreBelow first.old (length before.old) }
@@ -43,13 +37,7 @@ fn link(
 }
 
 // Puts `a` into the list of the place that it sends to, if there is one.
-fn join(
-    hops: &[PackedHop],
-    first: &mut [Option<u32>],
-    before: &mut [Option<u32>],
-    after: &mut [Option<u32>],
-    a: u32,
-)
+fn join(hops: &[PackedHop], first: &mut [Lead], before: &mut [Lead], after: &mut [Lead], a: u32)
     requires inside { a < length hops.now }
     requires within { IsWithin hops.now }
     requires lists { (rest : List ℕ) × HasLists hops.now rest first.old before.old after.old }
@@ -65,9 +53,9 @@ fn join(
 /// Puts the places of `roots`, which are in no list, into the lists of the places that they send to.
 pub fn relink(
     hops: &[PackedHop],
-    first: &mut [Option<u32>],
-    before: &mut [Option<u32>],
-    after: &mut [Option<u32>],
+    first: &mut [Lead],
+    before: &mut [Lead],
+    after: &mut [Lead],
     roots: &[u32],
 )
     requires within { IsWithin hops.now }
@@ -82,12 +70,7 @@ pub fn relink(
 }
 
 /// Puts all places, which are in no list, into the lists of the places that they send to.
-pub fn link_all(
-    hops: &[PackedHop],
-    first: &mut [Option<u32>],
-    before: &mut [Option<u32>],
-    after: &mut [Option<u32>],
-)
+pub fn link_all(hops: &[PackedHop], first: &mut [Lead], before: &mut [Lead], after: &mut [Lead])
     requires within { IsWithin hops.now }
     requires few { length hops.now < PLACE_LIMIT }
     requires first { AreNone first.old (length hops.now) }
@@ -112,7 +95,7 @@ pub fn put_last<T: Copy>(values: &mut Vec<T>, value: T)
 }
 
 /// So many links that lead nowhere.
-pub fn none_links(alloc: Global, count: usize) -> Result<Vec<Option<u32>>, AllocError>
+pub fn none_links(alloc: Global, count: usize) -> Result<Vec<Lead>, AllocError>
     ensures { IfOk result (λ v. AreNone v.items count) }
 {
     vec![in alloc; None; count]

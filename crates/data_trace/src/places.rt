@@ -3,6 +3,9 @@
 /// There are fewer places than this, so that each next hop and each end fits in four bytes.
 pub const PLACE_LIMIT: usize = 4_294_967_292;
 
+/// Where a link of a list leads: to a place, or nowhere.
+pub type Lead = Option<u32>;
+
 /// Where the AS at a place sends a packet.
 #[derive(Clone, Copy, Debug, PartialEq, Eq)]
 pub enum PlaceHop {

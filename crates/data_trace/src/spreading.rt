@@ -8,7 +8,7 @@ ghost use Rattle.data_trace.specs.Counted.{AreCounted, CanCount};
 
 use crate::counting::put_mark;
 use crate::packed::{PackedMark, mark_in};
-use crate::places::{Group, Mark};
+use crate::places::{Group, Lead, Mark};
 use crate::sums::Sums;
 use net_names::Asn;
 
@@ -43,7 +43,7 @@ fn forget(
     marks: &mut [PackedMark],
     groups: &[Group],
     queue: &mut Vec<u32>,
-    x: Option<u32>,
+    x: Lead,
 )
     requires inside { IfSome x (λ a. a < length marks.old) }
     requires queued { length queue.old.items + count_by is_known marks.old ≤ vec_capacity queue.old }
@@ -59,7 +59,7 @@ fn forget(
 }
 
 // The place after `at` in its list; a root stands in no list.
-fn behind(after: &[Option<u32>], at: usize, is_root: bool) -> Option<u32>
+fn behind(after: &[Lead], at: usize, is_root: bool) -> Lead
     requires { at < length after.now }
     ensures { result ≡ (if is_root then None else link_at after.now at) }
 {
@@ -72,8 +72,8 @@ pub fn spread(
     ases: &[Asn],
     marks: &mut [PackedMark],
     groups: &[Group],
-    first: &[Option<u32>],
-    after: &[Option<u32>],
+    first: &[Lead],
+    after: &[Lead],
     queue: &mut Vec<u32>,
 )
     requires first { AreBelow first.now (length marks.old) }

@@ -45,10 +45,9 @@ use stability_laws::{Book, SeedPlan};
 use std::alloc::Global;
 
 /// Of each AS of a graph its next hop, the end of its trace and its groups, for one round and one
-/// address. Contracts see a row for each AS, the address, and how many ASes a graph may have of which
-/// the watch can keep all without memory. ASes stand at places, and the place of an AS that goes stays;
-/// how many ASes each group has with each end is kept in sums. Which places send to which is kept in
-/// lists from the first `room` on.
+/// address. Contracts see a row per AS, the address, and `spare`: how many more ASes fit without
+/// allocating. ASes stand at places, and the place of an AS that goes stays. How many ASes each group has
+/// with each end is kept in sums. Which places send to which is kept in lists from the first `room` on.
 #[derive(Drop)]
 pub struct Watch {
     alloc: Global,

@@ -19,6 +19,7 @@ use Rattle.data_trace.proofs.Joining.{lists_rewritten, lists_equal}
 use Rattle.data_trace.proofs.Detaching.{change_then}
 use Rattle.data_trace.proofs.Renewing.{front_none, front_self, front_then, right_from_ends, renewed_right, none_unknown, fits_from_take}
 use Rattle.data_trace.proofs.renewal.renew.Goals as goal
+use Rattle.data_trace.proofs.renewal.renew.Goals.{After-detach-2, After-spread}
 
 -- before the first step the queue has no place
 none_waits : (hops : List PlaceHop) (marks : List Mark) (queue : List ℕ) → queue ≡ [] → AreEnds (next_of hops) (length hops) marks → IsFront marks marks queue
@@ -56,23 +57,31 @@ detach-requires-2 c =
       sums = record { few = c.requires.sums.few; counted = first.counted; room = omega (arith, c.requires.sums.room, first.sums_room) };
     }
 
+-- the places that wait are the front of what is spread
+front : (c : After-detach-2) → IsFront c.args.columns.now.marks.items c.detach-2.new.columns.marks.items c.detach-2.new.lists.queue.items
+front c =
+    let old = c.args.columns.now in
+    c.detach-2.ensures.detached.front old.marks.items (c.detach.ensures.detached.front old.marks.items (none_waits old.hops.items old.marks.items c.clear.new.self.items c.clear.ensures.items c.requires.ends))
+
+-- and so is what was spread
+spread_front : (c : After-spread) → IsFront c.args.columns.now.marks.items c.detach-2.new.columns.marks.items c.detach-2.new.lists.queue.items → IsFront c.args.columns.now.marks.items c.spread.new.marks c.spread.new.queue.items
+spread_front c v =
+    let queue : List ℕ = c.spread.new.queue.items in
+    front_then c.args.columns.now.marks.items c.detach-2.new.columns.marks.items c.spread.new.marks c.detach-2.new.lists.queue.items queue v
+    (subst (λ (ms : List Mark). IsFront ms c.spread.new.marks queue) c.as_mut_slice.ensures.value c.spread.ensures.front)
+
 pub spread-requires-clause-front : goal.spread-requires-clause-front
 spread-requires-clause-front c =
     let old = c.args.columns.now in
     let queue : List ℕ = c.detach-2.new.lists.queue.items in
-    let v : IsFront old.marks.items c.detach-2.new.columns.marks.items queue =
-    c.detach-2.ensures.detached.front old.marks.items (c.detach.ensures.detached.front old.marks.items (none_waits old.hops.items old.marks.items c.clear.new.self.items c.clear.ensures.items c.requires.ends)) in
-    subst (λ (ms : List Mark). IsFront ms ms queue) (sym c.as_mut_slice.ensures.value) (front_self old.marks.items c.detach-2.new.columns.marks.items queue v)
+    subst (λ (ms : List Mark). IsFront ms ms queue) (sym c.as_mut_slice.ensures.value) (front_self old.marks.items c.detach-2.new.columns.marks.items queue (front (goal.at.spread-requires-clause-front c).After-detach-2))
 
 pub relink-requires-clause-distinct : goal.relink-requires-clause-distinct
 relink-requires-clause-distinct c =
-    let old = c.args.columns.now in
     let n : c.len-count.result ≡ length c.detach-2.new.lists.queue.items = search rules in
     let roots : take c.len-count.result c.as_slice-places.result.now ≡ c.detach-2.new.lists.queue.items =
     ap (take c.len-count.result) c.as_slice-places.ensures.value ∙ ap (λ k. take k c.spread.new.queue.items) n ∙ c.spread.ensures.roots in
-    let v : IsFront old.marks.items c.detach-2.new.columns.marks.items c.detach-2.new.lists.queue.items =
-    c.detach-2.ensures.detached.front old.marks.items (c.detach.ensures.detached.front old.marks.items (none_waits old.hops.items old.marks.items c.clear.new.self.items c.clear.ensures.items c.requires.ends)) in
-    subst (IsDistinct nat_eq) (sym roots) v.distinct
+    subst (IsDistinct nat_eq) (sym roots) (front (goal.at.relink-requires-clause-distinct c).After-detach-2).distinct
 
 pub settle_each-requires-clause-right : goal.settle_each-requires-clause-right
 settle_each-requires-clause-right c =
@@ -82,9 +91,6 @@ settle_each-requires-clause-right c =
     let hops : List PlaceHop = old.hops.items in
     let queue : List ℕ = c.spread.new.queue.items in
     let marks : List Mark = c.spread.new.marks in
-    let v : IsFront old.marks.items columns.marks.items lists.queue.items =
-    c.detach-2.ensures.detached.front old.marks.items (c.detach.ensures.detached.front old.marks.items (none_waits hops old.marks.items c.clear.new.self.items c.clear.ensures.items c.requires.ends)) in
-    let w : IsFront old.marks.items marks queue = front_then old.marks.items columns.marks.items marks lists.queue.items queue v (subst (λ (ms : List Mark). IsFront ms marks queue) c.as_mut_slice.ensures.value c.spread.ensures.front) in
     let fits : length lists.queue.items ≤ length queue = fits_from_take _ _ c.spread.ensures.roots in
     let change : HopsChange c.args.source.now c.args.ases.now.ases hops columns.hops.items c.clear.new.self.items lists.queue.items = change_then c.args.source.now c.args.ases.now.ases _ _ _ _ _ _ c.detach.ensures.detached.change c.detach-2.ensures.detached.change in
     let kept : HasLists hops lists.queue.items lists.first.items lists.before.items lists.after.items =
@@ -92,7 +98,7 @@ settle_each-requires-clause-right c =
     let spread : HasSpread (link_at lists.first.items) (link_at lists.after.items) marks queue (length lists.queue.items) (length queue) =
     subst (λ (t : List (Option ℕ)). HasSpread (link_at t) (link_at lists.after.items) marks queue (length lists.queue.items) (length queue)) c.as_slice-2.ensures.value
     (subst (λ (t : List (Option ℕ)). HasSpread (link_at c.as_slice-2.result.now) (link_at t) marks queue (length lists.queue.items) (length queue)) c.as_slice-3.ensures.value c.spread.ensures.spread) in
-    let right : AreRight (next_of columns.hops.items) marks = renewed_right hops old.marks.items marks lists.queue.items queue lists.first.items lists.before.items lists.after.items w c.requires.ends.len
+    let right : AreRight (next_of columns.hops.items) marks = renewed_right hops old.marks.items marks lists.queue.items queue lists.first.items lists.before.items lists.after.items (spread_front (goal.at.settle_each-requires-clause-right c).After-spread (front (goal.at.settle_each-requires-clause-right c).After-detach-2)) c.requires.ends.len
     kept spread c.spread.ensures.roots fits columns.hops.items c.requires.within (right_from_ends hops old.marks.items c.requires.within c.requires.ends) change.others in
     let same : c.as_mut_slice-5.result.now ≡ marks = c.as_mut_slice-5.ensures.value ∙ with_items_is columns.marks marks (search rules) in
     subst (λ (ms : List Mark). AreRight (next_of c.as_slice-hops.result.now) ms) (sym same) (subst (λ (hs : List PlaceHop). AreRight (next_of hs) marks) (sym c.as_slice-hops.ensures.value) right)
@@ -124,9 +130,6 @@ returns-clause-ends c =
     let queue : List ℕ = c.spread.new.queue.items in
     let spread : List Mark = c.spread.new.marks in
     let marks : List Mark = c.settle_each.new.marks in
-    let v : IsFront old.marks.items columns.marks.items lists.queue.items =
-    c.detach-2.ensures.detached.front old.marks.items (c.detach.ensures.detached.front old.marks.items (none_waits old.hops.items old.marks.items c.clear.new.self.items c.clear.ensures.items c.requires.ends)) in
-    let w : IsFront old.marks.items spread queue = front_then old.marks.items columns.marks.items spread lists.queue.items queue v (subst (λ (ms : List Mark). IsFront ms spread queue) c.as_mut_slice.ensures.value c.spread.ensures.front) in
     let same : c.as_mut_slice-5.result.now ≡ spread = c.as_mut_slice-5.ensures.value ∙ with_items_is columns.marks spread (search rules) in
     let known : (k : ℕ) → k < length queue → mark_of marks (get_or queue k 0) ≢ Unknown =
     subst (λ (q : List ℕ). (k : ℕ) → k < length q → mark_of marks (get_or q k 0) ≢ Unknown) c.as_slice-places.ensures.value c.settle_each.ensures.known in
@@ -135,7 +138,7 @@ returns-clause-ends c =
     let marks_len : length marks ≡ length hops = omega (arith, c.settle_each.ensures.counted.marks_len, ap length c.as_slice-numbers.ensures.list, c.detach-2.ensures.detached.places) in
     let marks_new : (with_items (with_items columns.marks spread) marks).items ≡ marks = with_items_is (with_items columns.marks spread) marks (search rules) in
     subst (λ (ms : List Mark). AreEnds (next_of hops) (length hops) ms) (sym marks_new) (ends_from_marks (next_of hops) (length hops) marks marks_len right
-    (λ x l. none_unknown old.marks.items spread marks queue w kept known x (omega (arith, l, c.detach-2.ensures.detached.places, c.requires.len, c.requires.ends.len))))
+    (λ x l. none_unknown old.marks.items spread marks queue (spread_front (goal.at.returns-clause-ends c).After-spread (front (goal.at.returns-clause-ends c).After-detach-2)) kept known x (omega (arith, l, c.detach-2.ensures.detached.places, c.requires.len, c.requires.ends.len))))
 
 pub returns-clause-lists : goal.returns-clause-lists
 returns-clause-lists c = λ n r.
