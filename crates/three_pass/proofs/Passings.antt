@@ -20,7 +20,7 @@ use Rattle.three_pass.specs.Lists.{AreProviders, list_at}
 use Rattle.three_pass.specs.Passings.{IsPassing, IsReady, order_of, routing_in}
 use Rattle.three_pass.specs.Told.{IsTold}
 use Rattle.three_pass.specs.Ways.{AreStances}
-use Rattle.three_pass.proofs.ByRank.{all_lawful}
+use Rattle.three_pass.proofs.ByRank.{IsByRank, all_lawful, by_rank}
 use Rattle.three_pass.proofs.Quiet.{givers}
 
 -- the list at a place has the providers of the AS there
@@ -30,9 +30,9 @@ above_at meaning p a k passing inside there = subst (λ (b : ℕ). AreProviders 
 -- an AS that was told nothing gets offers from its providers alone
 pub untold_givers : {P V : Type 0} (meaning : P → Policy) (ranks_offers : (x : P) → RanksOffers (meaning x)) (prefers_customers : (x : P) → PrefersCustomers (meaning x)) (exports_down_only : (x : P) → ExportsDownOnly (meaning x))
     (state_of : V → Prefix → ℕ → State) (p : Passing P V) (notes : Told) (pool : PathPool) (overlay : Overlay) (part : Part) (a k : ℕ)
-    → IsPassing meaning p → IsReady meaning state_of p notes pool overlay part a k → ((b : ℕ) → ¬ IsTold notes a b) → AreGiversAt meaning p.at pool overlay part a (list_at p.course.now.above k)
-untold_givers meaning ranks_offers prefers_customers exports_down_only state_of p notes pool overlay part a k passing ready untold =
-    let above = above_at meaning p a k passing ready.inside ready.there in
+    → IsReady meaning state_of p notes pool overlay part a k → ((b : ℕ) → ¬ IsTold notes a b) → AreGiversAt meaning p.at pool overlay part a (list_at p.course.now.above k)
+untold_givers meaning ranks_offers prefers_customers exports_down_only state_of p notes pool overlay part a k ready untold =
+    let above = above_at meaning p a k ready.passing ready.inside ready.there in
     let lawful = all_lawful meaning ranks_offers prefers_customers exports_down_only (policy_at p.at.book.now) in
     givers (setting_at meaning state_of p.at) lawful (routing_in p pool overlay) a part (IsTold notes) (list_at p.course.now.above k) ready.told
     above.each (λ b told. absurd (untold b told)) (λ whole. above.complete)
@@ -46,3 +46,8 @@ passing_is meaning p stances no_cycle course same are unnamed = record {
   stances = subst (AreStances (λ a. meaning (policy_at p.at.book.now a)) p.course.now p.all) (sym same) are;
   unnamed = unnamed;
 }
+
+-- the order has the laws by which the passes go along it
+pub ranked_by : {P V : Type 0} (meaning : P → Policy) (ranks_offers : (x : P) → RanksOffers (meaning x)) (prefers_customers : (x : P) → PrefersCustomers (meaning x)) (exports_down_only : (x : P) → ExportsDownOnly (meaning x))
+    (state_of : V → Prefix → ℕ → State) (p : Passing P V) → IsPassing meaning p → IsByRank (setting_at meaning state_of p.at) (order_of p)
+ranked_by meaning ranks_offers prefers_customers exports_down_only state_of p passing = by_rank meaning ranks_offers prefers_customers exports_down_only state_of p.at p.course.now passing.no_cycle passing.course

@@ -47,8 +47,9 @@ pub record IsPassing {P V : Type 0} (meaning : P → Policy) (p : Passing P V) :
   pub stances : AreStances (λ a. meaning (policy_at p.at.book.now a)) p.course.now p.all p.stances.now
   pub unnamed : (a : ℕ) → is_among p.named.asns a ≡ false → seed_at p.at.seeds.now a ≡ None
 
--- the AS stands at the place of the order and can take a step, each customer and peer of it with an Origin or a Customer entry told it so, all that is held has origins of the state of all seeds' origins, if that is one, and if it holds nothing, an offer of the part with a path through it comes from an origin of a seed's path on which it stands
+-- what a pass takes for granted stands, the AS is at the place of the order and can take a step, each customer and peer of it with an Origin or a Customer entry told it so, all that is held has origins of the state of all seeds' origins, if that is one, and if it holds nothing, an offer of the part with a path through it comes from an origin of a seed's path on which it stands
 pub record IsReady {P V : Type 0} (meaning : P → Policy) (state_of : V → Prefix → ℕ → State) (p : Passing P V) (notes : Told) (pool : PathPool) (overlay : Overlay) (part : Part) (a place : ℕ) : Type 0 where
+  pub passing : IsPassing meaning p
   pub inside : place < length (order_of p)
   pub there : slice_index (order_of p) place ≡ a
   pub can : CanStep pool p.at.seeds.now p.at.table.now overlay 1

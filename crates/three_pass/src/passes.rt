@@ -129,7 +129,6 @@ impl<P: RoutePolicy, V: OriginStates> Passing<'_, '_, P, V> {
         turn: Turn,
         steps: &mut Steps<L>,
     ) -> bool
-        requires passing { IsPassing P.meaning self.now }
         requires ready { IsReady P.meaning V.state_of self.now gathered.old.told pool.old overlay.old turn.part
             turn.asn turn.place }
         requires nothing { routing_in self.now pool.old overlay.old turn.asn ≡ None }
@@ -168,7 +167,6 @@ impl<P: RoutePolicy, V: OriginStates> Passing<'_, '_, P, V> {
         placed: PlacedAs,
         steps: &mut Steps<L>,
     ) -> bool
-        requires passing { IsPassing P.meaning self.now }
         requires ready { IsReady P.meaning V.state_of self.now gathered.old.told pool.old overlay.old Part.Up
             placed.asn placed.place }
         requires nothing { routing_in self.now pool.old overlay.old placed.asn ≡ None }
@@ -206,7 +204,6 @@ impl<P: RoutePolicy, V: OriginStates> Passing<'_, '_, P, V> {
         placed: PlacedAs,
         steps: &mut Steps<L>,
     )
-        requires passing { IsPassing P.meaning self.now }
         requires ready { IsReady P.meaning V.state_of self.now gathered.old.told pool.old overlay.old Part.Up
             placed.asn placed.place }
         requires nothing { routing_in self.now pool.old overlay.old placed.asn ≡ None }
@@ -274,7 +271,6 @@ impl<P: RoutePolicy, V: OriginStates> Passing<'_, '_, P, V> {
         placed: PlacedAs,
         steps: &mut Steps<L>,
     ) -> bool
-        requires passing { IsPassing P.meaning self.now }
         requires ready { IsReady P.meaning V.state_of self.now gathered.old.told pool.old overlay.old Part.Whole
             placed.asn placed.place }
         requires held { routing_in self.now pool.old overlay.old placed.asn ≢ None →

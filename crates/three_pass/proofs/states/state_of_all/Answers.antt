@@ -1,7 +1,6 @@
-use Rattle.std.proofs.Common.{◌≡◌, ◌+◌, [], ◌∷◌, ◌++◌, ℕ, true, inl, inr, Some, None, Option, is_some, option_map, take, take_all, refl, sym, ◌∙◌, ap, subst}
+use Rattle.std.proofs.Common.{◌≡◌, ◌+◌, [], ◌∷◌, ◌++◌, true, inl, inr, Some, None, Option, is_some, option_map, take, take_all, refl, sym, ◌∙◌, ap, subst}
 use Rattle.std.proofs.lemmas.List.{take_more}
 use Rattle.net_names.specs.Numbers.{last_or, occurs}
-use Rattle.net_names.specs.declared.routes.State.{State}
 use Rattle.policy_laws.specs.Plain.{IsOf}
 use Rattle.stability_laws.specs.declared.entry.Seed.{Seed}
 use Rattle.route_choice.specs.declared.held.SeedHeld.{SeedHeld}

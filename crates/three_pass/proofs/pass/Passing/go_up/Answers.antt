@@ -51,6 +51,7 @@ step_up-requires-clause-ready g c =
     let f = routing_of c.loop-place.pool c.args.self.now.at.table.now c.loop-place.overlay in
     let within : c.loop-place.place < length xs = omega (arith, c.loop-place-test.true, c.len-place-end.ensures) in
     record {
+      passing = c.requires.passing;
       inside = within;
       there = sym (get_or_read xs c.loop-place.place a within c.index-asn.ensures 0);
       can = can_step c.loop-place.pool c.args.self.now.at.seeds.now c.args.self.now.at.table.now c.loop-place.overlay xs c.loop-place.invariant.room (omega (arith, within));

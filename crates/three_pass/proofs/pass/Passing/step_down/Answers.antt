@@ -39,20 +39,20 @@ pub visit_providers-requires-clause-nothing : goal.visit_providers-requires-clau
 visit_providers-requires-clause-nothing g c = joined_none c.args.pool.now (joined c.args.self.now.at.table.now c.args.overlay.now c.args.placed.asn) (sym c.holds.ensures ∙ c.if-holds.false)
 
 pub visit_providers-requires-clause-unseeded : goal.visit_providers-requires-clause-unseeded
-visit_providers-requires-clause-unseeded g c = c.requires.passing.unnamed c.args.placed.asn (sym c.has-may_loop.ensures.value ∙ c.is_plainly_untold.ensures.unnamed c.if-is_plainly_untold.true)
+visit_providers-requires-clause-unseeded g c = c.requires.ready.passing.unnamed c.args.placed.asn (sym c.has-may_loop.ensures.value ∙ c.is_plainly_untold.ensures.unnamed c.if-is_plainly_untold.true)
 
 pub visit_providers-requires-clause-own : goal.visit_providers-requires-clause-own
 visit_providers-requires-clause-own g c =
     let here = setting_at g.P.RoutePolicy.meaning g.V.OriginStates.state_of c.args.self.now.at in
     let a = c.args.placed.asn in
     let f = routing_of c.args.pool.now c.args.self.now.at.table.now c.args.overlay.now in
-    let plain = (c.requires.passing.stances c.args.placed.place Plain (c.is_plainly_untold.ensures.plain c.if-is_plainly_untold.true)).plain.0 refl in
+    let plain = (c.requires.ready.passing.stances c.args.placed.place Plain (c.is_plainly_untold.ensures.plain c.if-is_plainly_untold.true)).plain.0 refl in
     takes_within (here.policy a) (IsOf c.args.self.now.all) (IsOffered here f a) (offered_within here f a (IsOf c.args.self.now.all) c.requires.ready.origins)
     (subst (λ b. TakesPlainly (here.policy b) (IsOf c.args.self.now.all)) c.requires.ready.there plain.0)
 
 pub visit_providers-requires-clause-plain : goal.visit_providers-requires-clause-plain
 visit_providers-requires-clause-plain g c =
-    let plain = (c.requires.passing.stances c.args.placed.place Plain (c.is_plainly_untold.ensures.plain c.if-is_plainly_untold.true)).plain.0 refl in
+    let plain = (c.requires.ready.passing.stances c.args.placed.place Plain (c.is_plainly_untold.ensures.plain c.if-is_plainly_untold.true)).plain.0 refl in
     subst (ArePlainSenders (λ n. g.P.RoutePolicy.meaning (policy_at c.args.self.now.at.book.now n))) (sym c.list-above.ensures) plain.1
 
 pub returns-then-takes_none-clause-visit : goal.returns-then-takes_none-clause-visit
@@ -63,8 +63,8 @@ returns-then-takes_none-clause-visit g c =
     let seeds = c.args.self.now.at.seeds.now in
     let f = routing_of pool c.args.self.now.at.table.now c.args.overlay.now in
     let (unnamed, at) = c.takes_none.ensures c.if-takes_none.true in
-    let none = none_of (IsOf c.args.self.now.all) Whole here f a c.requires.ready.origins (subst (λ b. TakesNone (here.policy b) (IsOf c.args.self.now.all)) c.requires.ready.there ((c.requires.passing.stances c.args.placed.place Nothing at).nothing.0 refl)) in
-    let no_seed = ap (option_map (seed_of pool)) (c.requires.passing.unnamed a (sym c.has-may_loop.ensures.value ∙ unnamed)) in
+    let none = none_of (IsOf c.args.self.now.all) Whole here f a c.requires.ready.origins (subst (λ b. TakesNone (here.policy b) (IsOf c.args.self.now.all)) c.requires.ready.there ((c.requires.ready.passing.stances c.args.placed.place Nothing at).nothing.0 refl)) in
+    let no_seed = ap (option_map (seed_of pool)) (c.requires.ready.passing.unnamed a (sym c.has-may_loop.ensures.value ∙ unnamed)) in
     unmoved Whole here seeds c.args.self.now.at.table.now pool c.args.overlay.now a
     (idle Whole here (seeds_of pool seeds) f a no_seed (joined_none pool (joined c.args.self.now.at.table.now c.args.overlay.now a) (sym c.holds.ensures ∙ c.if-holds.false)) none)
 
@@ -73,7 +73,7 @@ visit_providers-requires-clause-givers g c =
     let at = c.args.self.now.at in
     subst (AreGivers Whole (relation at.graph.now) (λ n. g.P.RoutePolicy.meaning (policy_at at.book.now n)) (routing_of c.args.pool.now at.table.now c.args.overlay.now) c.args.placed.asn) (sym c.list-above.ensures)
     (untold_givers g.P.RoutePolicy.meaning g.met.P.RoutePolicy.ranks_offers g.met.P.RoutePolicy.prefers_customers g.met.P.RoutePolicy.exports_down_only g.V.OriginStates.state_of c.args.self.now c.args.gathered.now.told c.args.pool.now c.args.overlay.now
-    Whole c.args.placed.asn c.args.placed.place c.requires.passing c.requires.ready (c.is_plainly_untold.ensures.untold c.if-is_plainly_untold.true))
+    Whole c.args.placed.asn c.args.placed.place c.requires.ready (c.is_plainly_untold.ensures.untold c.if-is_plainly_untold.true))
 
 pub visit_providers-requires-clause-no_loops : goal.visit_providers-requires-clause-no_loops
 visit_providers-requires-clause-no_loops g c =
@@ -89,7 +89,7 @@ pub step-requires-clause-nothing : goal.step-requires-clause-nothing
 step-requires-clause-nothing g c = joined_none c.args.pool.now (joined c.args.self.now.at.table.now c.args.overlay.now c.args.placed.asn) (sym c.holds.ensures ∙ c.if-holds.false)
 
 pub list-above-requires : goal.list-above-requires
-list-above-requires g c = omega (arith, c.requires.ready.inside, c.requires.passing.course.above.count)
+list-above-requires g c = omega (arith, c.requires.ready.inside, c.requires.ready.passing.course.above.count)
 
 pub places-above_places-requires : goal.places-above_places-requires
-places-above_places-requires g c = omega (arith, c.requires.ready.inside, c.requires.passing.course.above.count)
+places-above_places-requires g c = omega (arith, c.requires.ready.inside, c.requires.ready.passing.course.above.count)

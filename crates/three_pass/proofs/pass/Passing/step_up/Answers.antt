@@ -25,7 +25,7 @@ returns-then-has_none_to_take-clause-step g c =
     let a = c.args.placed.asn in
     let none = c.has_none_to_take.ensures c.if-has_none_to_take.true in
     let f = routing_of c.args.pool.now c.args.self.now.at.table.now c.args.overlay.now in
-    let no_seed = ap (option_map (seed_of c.args.pool.now)) (c.requires.passing.unnamed c.args.placed.asn none.0) in
+    let no_seed = ap (option_map (seed_of c.args.pool.now)) (c.requires.ready.passing.unnamed c.args.placed.asn none.0) in
     idle Up here (seeds_of c.args.pool.now c.args.self.now.at.seeds.now) f a no_seed c.requires.nothing
     (up_none here lawful f a (quiet (IsTold c.args.gathered.now.told) here f a c.requires.ready.told none.1))
 
@@ -35,8 +35,8 @@ returns-then-takes_none-clause-step g c =
     let a = c.args.placed.asn in
     let f = routing_of c.args.pool.now c.args.self.now.at.table.now c.args.overlay.now in
     let (unnamed, at) = c.takes_none.ensures c.if-takes_none.true in
-    let none = (c.requires.passing.stances c.args.placed.place Nothing at).nothing.0 refl in
-    let no_seed = ap (option_map (seed_of c.args.pool.now)) (c.requires.passing.unnamed a (sym c.has-may_loop.ensures.value ∙ unnamed)) in
+    let none = (c.requires.ready.passing.stances c.args.placed.place Nothing at).nothing.0 refl in
+    let no_seed = ap (option_map (seed_of c.args.pool.now)) (c.requires.ready.passing.unnamed a (sym c.has-may_loop.ensures.value ∙ unnamed)) in
     idle Up here (seeds_of c.args.pool.now c.args.self.now.at.seeds.now) f a no_seed c.requires.nothing
     (none_of (IsOf c.args.self.now.all) Up here f a c.requires.ready.origins (subst (λ b. TakesNone (here.policy b) (IsOf c.args.self.now.all)) c.requires.ready.there none))
 
@@ -53,7 +53,7 @@ both g c =
     let a = c.args.placed.asn in
     let there : occurs a xs ≡ true = list_any_at (λ y. y == a) xs c.args.placed.place 0 c.requires.ready.inside (eq-eqb _ a c.requires.ready.there) in
     visited c.args.pool.now c.args.pool.now c.step_and_tell.new.pool c.args.self.now.at.seeds.now c.args.self.now.at.table.now c.args.overlay.now c.args.overlay.now c.step_and_tell.new.overlay xs a
-    c.requires.passing.course.order.apart there c.requires.room (spent_nothing c.args.pool.now c.args.self.now.at.seeds.now c.args.self.now.at.table.now c.args.overlay.now xs) c.step_and_tell.ensures.visit (inl c.requires.nothing)
+    c.requires.ready.passing.course.order.apart there c.requires.room (spent_nothing c.args.pool.now c.args.self.now.at.seeds.now c.args.self.now.at.table.now c.args.overlay.now xs) c.step_and_tell.ensures.visit (inl c.requires.nothing)
 
 pub returns-clause-room : goal.returns-clause-room
 returns-clause-room g c = (both g c).0

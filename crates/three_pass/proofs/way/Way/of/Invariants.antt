@@ -1,4 +1,4 @@
-use Rattle.std.proofs.Common.{◌≡◌, ℕ, Option, length}
+use Rattle.std.proofs.Common.{◌≡◌, Option, length}
 use Rattle.net_names.specs.declared.routes.State.{State}
 use Rattle.stability_laws.specs.Book.{policy_at}
 use Rattle.three_pass.specs.Stances.{stances_of}
