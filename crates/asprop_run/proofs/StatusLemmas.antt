@@ -36,7 +36,7 @@ succeeds : (form : Option Form) (task : Task) (result : Result Bool Failure) (ou
 succeeds form task (Ok false) out quiet has w = inl refl
 succeeds form task (Ok true) out quiet has w = inr (inl refl)
 succeeds form task (Err failure.Memory) out quiet has w = inr (inr refl)
-succeeds form task (Err failure.Write) out quiet has w = absurd (quiet _ w.1.2.2)
+succeeds form task (Err failure.Write) out quiet has w = absurd (quiet _ w.1.2.2.2)
 succeeds form task (Err (failure.Cycle cycle)) out quiet has w = absurd (has.0 (cycle, w.0.cycle))
 succeeds form task (Err (failure.Fault f)) out quiet has w = absurd (not_outside (outside task.world task.jobs) f has.1 w.1)
 

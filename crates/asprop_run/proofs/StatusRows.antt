@@ -82,7 +82,7 @@ write_stop form reads _ (unread which is) h = cc
 write_stop form reads _ (by_value f is) h = is.write h
 
 broken : (task : Result Task Fault) (out : Stream) → Outcome task (Err failure.Write) out → (text : List ℕ) × out.failed text
-broken (Ok task) out w = (_, w.1.2.2)
+broken (Ok task) out w = (_, w.1.2.2.2)
 broken (Err f) out w = absurd w
 
 write_by : (form : Option Form) (reads : Reads) (result : Result Bool Failure) (out : Stream) → Outcome (task_of form reads) result out → status.WriteFault ≡ (ending_of form result).0 → (text : List ℕ) × out.failed text

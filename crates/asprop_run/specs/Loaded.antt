@@ -22,8 +22,16 @@ loaded_world (Ranked base ranks) = base_world base
 abbrev pub AreRanks : World → KeptRanks → Type 0
 AreRanks w ranks = (a : ℕ) → IsRank (relation (topology w)) a (rank_at ranks a)
 
+-- the ranks are all that is needed beside the world for the job
+abbrev pub ServesSweep : World → KeptRanks → Job → Type 0
+ServesSweep w ranks job = AreRanks w ranks × (needs_of job ≡ needs.Ranks)
+
 -- what is loaded is all that an answer to the job is made from
 abbrev pub Serves : Loaded → Job → Type 0
 Serves (Whole sim) job = IsKept (world_seen sim) (kept sim) × (needs_of job ≡ needs.Kept)
 Serves (Bare base) job = needs_of job ≡ needs.World
-Serves (Ranked base ranks) job = AreRanks (base_world base) ranks × (needs_of job ≡ needs.Ranks)
+Serves (Ranked base ranks) job = ServesSweep (base_world base) ranks job
+
+-- the answer to the job is made whole, and may be held back
+abbrev pub IsHeld : Job → Type 0
+IsHeld job = needs_of job ≡ needs.Ranks → ⊥

@@ -21,7 +21,7 @@ use Rattle.asprop_run.specs.declared.types.Failure.TheVariants as failure
 use Rattle.asprop_run.specs.declared.types.Failure.TheVariants.{Memory, Write, Cycle}
 use Rattle.task_reading.specs.declared.types.Status.{Status}
 
--- What the work over a task or a fault ends with, and what it writes: all answers; or where memory ran out nothing, or whole answers to some jobs in front; or where a write failed a front of such answers; or nothing, where there is a provider cycle, told from its lowest number on, or else where a line of an option's file names what isn't in the world, or where there is a fault.
+-- What the work over a task or a fault ends with, and what it writes: all answers; or where memory ran out nothing, or whole answers to some jobs in front, and of a sweep behind them the rows of some trials from the first on; or where a write failed a front of such a text; or nothing, where there is a provider cycle, told from its lowest number on, or else where a line of an option's file names what isn't in the world, or where there is a fault.
 abbrev pub Outcome : Result Task Fault → Result Bool Failure → Stream → Type 0
 Outcome (Ok t) (Ok refused) o = HasAnswers t × Wrote t.world t.jobs refused o.wrote
 Outcome (Ok t) (Err Memory) o = o.wrote [] ⊎ (HasAnswers t × WroteSome t o.wrote)

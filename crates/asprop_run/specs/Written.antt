@@ -1,10 +1,11 @@
 -- What was written of the answers.
-use Rattle.std.specs.Prelude.{◌≡◌, ℕ, ◌++◌, Bool, List, Option, take, Result, Ok, Err}
+use Rattle.std.specs.Prelude.{◌≡◌, ℕ, ◌∷◌, ◌++◌, [], Bool, List, Option, drop, take, Result, Ok, Err}
 use Rattle.clap.specs.Walk.{Text}
 use Rattle.io_edge.specs.Bytes.{Appends}
 use Rattle.asprop_run.specs.Streams.{Stream}
 use Rattle.asprop_run.specs.Task.{Task}
-use Rattle.task_reading.specs.Jobs.{Job}
+use Rattle.task_reading.specs.Jobs.{Job, sweep_job}
+use Rattle.trial_world.specs.Sweeps.{IsBegunIn}
 use Rattle.sim_core.specs.World.{World}
 use Rattle.asprop_run.specs.Replies.{AnswersJobs}
 use Rattle.asprop_run.specs.declared.types.Failure.{Failure}
@@ -14,9 +15,14 @@ use Rattle.asprop_run.specs.declared.types.Failure.TheVariants as failure
 abbrev pub Wrote : World → List Job → Bool → (Text → Type 0) → Type 0
 Wrote w jobs refused how = (text : Text) × AnswersJobs w jobs text refused × how text
 
--- the answers to some jobs in front were written so
+-- a text begins the answer to the first of these jobs: of a sweep it is the rows of some trials, from the first on, and of another job it is nothing
+abbrev pub Begins : World → List Job → Text → Type 0
+Begins w (sweep_job line ∷ jobs) text = IsBegunIn w line text
+Begins w jobs text = text ≡ []
+
+-- the answers to some jobs in front were written so, and behind them what begins the answer to the next one; a sweep stands among sweeps alone, and these leave the world
 abbrev pub WroteSome : Task → (Text → Type 0) → Type 0
-WroteSome t how = (count : ℕ) × (refused : Bool) × Wrote t.world (take count t.jobs) refused how
+WroteSome t how = (count : ℕ) × (refused : Bool) × Wrote t.world (take count t.jobs) refused (λ text. (more : Text) × Begins t.world (drop count t.jobs) more × how (text ++ more))
 
 -- how answering ends
 abbrev pub Answering : Task → Result Bool Failure → Stream → Type 0

@@ -6,7 +6,7 @@ ghost use Rattle.scenario_text.specs.Prelude.{IsWellFormed, IsSoundAct};
 ghost use Rattle.task_reading.specs.Prelude.{Job as AJob, IsSoundJob, counts_job, job_seen, line_job, needs_of};
 ghost use Rattle.task_reading.specs.declared.jobs.Needs.TheVariants as needs;
 ghost use Rattle.asprop_run.specs.Inside.{AreInside, IsInside};
-ghost use Rattle.asprop_run.specs.Loaded.{AreRanks, Serves, loaded_world};
+ghost use Rattle.asprop_run.specs.Loaded.{IsHeld, Serves, loaded_world};
 ghost use Rattle.asprop_run.specs.Replies.{AnswersJob, AppendsReply, head};
 ghost use Rattle.asprop_run.specs.Streams.{stream_of};
 ghost use Rattle.asprop_run.specs.Written.{Answering, IsPassedOn};
@@ -16,10 +16,10 @@ use crate::checking::answer_check;
 use crate::delivering::answer_deliveries;
 use crate::loaded::Loaded;
 use crate::refusals::{put_done, put_edit_refusal, put_refusal};
+use crate::sweeping::write_sweeps;
 use crate::types::Failure;
 use io_edge::{Failed, Sink, write_all};
 use net_names::{NoMemory, put_bytes};
-use rank_order::Ranks;
 use route_choice::Steps;
 use scenario_text::{Act, Edit, Line, Query};
 use sim_core::{Base, QueryError, Sim};
@@ -27,7 +27,6 @@ use std::alloc::Global;
 use std::marker::Brand;
 use std::sync::ledger::{Blank, Ledger};
 use task_reading::{Job, Jobs};
-use trial_world::put_sweep;
 
 // So many bytes of answers are held back at most, and then written together.
 const HELD_BACK: usize = 65_536;
@@ -182,30 +181,6 @@ fn answer_bare(
     }
 }
 
-// Makes the whole answer to a job by the world and its ranks.
-fn answer_ranked(
-    alloc: Global,
-    base: &Base,
-    ranks: &Ranks,
-    job: Job<'_>,
-    text: &mut Vec<u8>,
-) -> Result<(), NoMemory>
-    requires needs { needs_of (job_seen job) ≡ needs.Ranks }
-    requires inside { IsInside (base_world base.now) (job_seen job) }
-    requires ranks { AreRanks (base_world base.now) ranks.now }
-    ensures { OnOk result (AnswersJob (base_world base.now) (job_seen job.entry)
-        text.new.items false (base_world base.now)) }
-{
-    match job {
-        Job::Sweep(line) => {
-            text.clear();
-            put_sweep(alloc, base, ranks, line, text)
-        }
-        Job::Counts | Job::Line(_, _) | Job::Activations(_) | Job::Messages(_) | Job::Tables(_) =>
-            unreachable!(),
-    }
-}
-
 // Makes the whole answer to a job, and says whether it is a refusal.
 fn answer_job(
     alloc: Global,
@@ -216,6 +191,7 @@ fn answer_job(
     requires sound { IsSoundJob (job_seen job) }
     requires inside { IsInside (loaded_world loaded.old) (job_seen job) }
     requires serves { Serves loaded.old (job_seen job) }
+    requires held { IsHeld (job_seen job) }
     requires no_cycle { HasCycle (loaded_world loaded.old) → ⊥ }
     ensures answered { IfOk result (λ refused. AnswersJob (loaded_world loaded.old) (job_seen job.entry)
         text.new.items refused (loaded_world loaded.new)) }
@@ -225,10 +201,7 @@ fn answer_job(
     match loaded {
         Loaded::Whole(sim) => answer_whole(alloc, sim, job, text),
         Loaded::Bare(base) => answer_bare(alloc, base, job, text),
-        Loaded::Ranked(base, ranks) => {
-            answer_ranked(alloc, base, ranks, job, text)?;
-            Ok(false)
-        }
+        Loaded::Ranked(_, _) => unreachable!(),
     }
 }
 
@@ -248,10 +221,10 @@ fn pass_on<O: Sink>(text: &[u8], held: &mut Vec<u8>, out: &mut O) -> Result<(), 
     write_all(out, text)
 }
 
-/// Writes the answers to the jobs one after the other, each in the world that the jobs before it leave and made whole
-/// before, and says whether one is a refusal. Short answers are written together. Where memory runs out, the answers
-/// before are written.
-pub fn write_answers<O: Sink>(
+// Writes the answers to the jobs one after the other, each in the world that the jobs before it leave and made whole
+// before, and says whether one is a refusal. Short answers are written together. Where memory runs out, the answers
+// before are written.
+fn write_whole_answers<O: Sink>(
     alloc: Global,
     loaded: &mut Loaded,
     jobs: &Jobs,
@@ -259,6 +232,7 @@ pub fn write_answers<O: Sink>(
 ) -> Result<bool, Failure>
     requires inside { AreInside (loaded_world loaded.old) jobs.now }
     requires serves { All (Serves loaded.old) jobs.now }
+    requires held { All IsHeld jobs.now }
     requires no_cycle { HasCycle (loaded_world loaded.old) → ⊥ }
     ensures { Answering (record { world = loaded_world loaded.old; jobs = jobs.now }) result
         (stream_of O.written O.faults out.old out.new) }
@@ -285,4 +259,25 @@ pub fn write_answers<O: Sink>(
     }
     write_all(out, &held)?;
     Ok(refused)
+}
+
+/// Writes the answers to the jobs one after the other, each in the world that the jobs before it leave, and says whether
+/// one is a refusal. An answer is made whole before it is written, and short ones are written together; but the rows of
+/// sweeps are written as they come. Where memory runs out, the answers before are written.
+pub fn write_answers<O: Sink>(
+    alloc: Global,
+    loaded: &mut Loaded,
+    jobs: &Jobs,
+    out: &mut O,
+) -> Result<bool, Failure>
+    requires inside { AreInside (loaded_world loaded.old) jobs.now }
+    requires serves { All (Serves loaded.old) jobs.now }
+    requires no_cycle { HasCycle (loaded_world loaded.old) → ⊥ }
+    ensures { Answering (record { world = loaded_world loaded.old; jobs = jobs.now }) result
+        (stream_of O.written O.faults out.old out.new) }
+{
+    match loaded {
+        Loaded::Ranked(base, ranks) => write_sweeps(alloc, base, ranks, jobs, out),
+        Loaded::Whole(_) | Loaded::Bare(_) => write_whole_answers(alloc, loaded, jobs, out),
+    }
 }

@@ -1,12 +1,13 @@
 //! The failures that errors come to.
 ghost use Rattle.std.specs.Prelude.{◌≡◌};
-ghost use Rattle.asprop_run.specs.Failures.{unasked, unloaded};
+ghost use Rattle.asprop_run.specs.Failures.{unasked, unloaded, unwritten};
 ghost use Rattle.asprop_run.specs.declared.types.Failure.TheVariants.{Memory, Write};
 
 use crate::types::Failure;
 use io_edge::Failed;
 use sim_core::LoadError;
 use std::alloc::AllocError;
+use sweep::RowsError;
 use task_reading::{AskError, Fault};
 
 impl From<AllocError> for Failure {
@@ -44,6 +45,17 @@ impl From<LoadError> for Failure {
             LoadError::Memory => Failure::Memory,
             LoadError::TooManyAses => Failure::Fault(Fault::TooManyAses),
             LoadError::ProviderCycle(cycle) => Failure::Cycle(cycle),
+        }
+    }
+}
+
+impl From<RowsError> for Failure {
+    ghost from_gives = { λ e f. f ≡ unwritten e };
+
+    fn from(e: RowsError) -> Failure {
+        match e {
+            RowsError::Memory => Failure::Memory,
+            RowsError::Write => Failure::Write,
         }
     }
 }

@@ -19,6 +19,7 @@ mod refusals;
 mod running;
 mod starting;
 mod states;
+mod sweeping;
 mod types;
 
 pub use laws::{

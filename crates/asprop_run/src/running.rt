@@ -81,9 +81,9 @@ fn work<I: Inputs, O: Sink>(
 /// The first word is the program's name. The order of the work is: the words, the relationship
 /// file, the payload file, the scenario, the script or the file of another option, the number of
 /// ASes, the provider cycle, whether the world has what that file names, the answers, line by line,
-/// each made whole before it is written. A line that edits the world, by a link, a policy, a payload
-/// or an announcement, changes it for the lines after it, unless it is refused. Nothing is written to
-/// `out` before all files have been read and judged.
+/// each made whole before it is written, but that the rows of a sweep are written as they come. A line
+/// that edits the world, by a link, a policy, a payload or an announcement, changes it for the lines
+/// after it, unless it is refused. Nothing is written to `out` before all files have been read and judged.
 ///
 /// Where the bytes of the files are told, the law `told_files_are_answered` says what a run over them is.
 pub fn run<I: Inputs, O: Sink, E: Sink>(

@@ -4,5 +4,6 @@ pub mod KindChanges
 pub mod Drawn
 pub mod Front
 pub mod Parts
+pub mod Written
 pub mod Least
 pub mod Low

@@ -1,6 +1,7 @@
 pub mod Adopters
 pub mod Trials
 pub mod Swept
+pub mod Written
 pub mod Texts
 pub mod Reading
 pub mod Laws

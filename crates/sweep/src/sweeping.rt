@@ -1,19 +1,24 @@
 //! All trials of a line.
-ghost use Rattle.std.specs.Prelude.{◌≡◌, ℕ, ◌+◌, ◌≤◌, ◌++◌, true, List, Some, All, IfOk, OnOk, OnErr, length, map, take};
+ghost use Rattle.std.specs.Prelude.{◌≡◌, ℕ, ◌≤◌, true, List, All, IfErr, IfOk, OnOk, OnErr, drop, length, map, take};
 ghost use Rattle.std.specs.List.{flat_map};
 ghost use Rattle.std.specs.FinMap as fin;
+ghost use Rattle.io_edge.specs.Bytes.{Appends, AppendsFront};
+ghost use Rattle.io_edge.specs.Prelude.{HasCause, HasRisen};
 ghost use Rattle.net_names.specs.Prelude.{IsDistinct};
 ghost use Rattle.policy_kinds.specs.declared.kind.Kind.{Kind as AKind};
 ghost use Rattle.sweep.specs.Trials.{adopted as with_adopters, with_kinds};
-ghost use Rattle.sweep.specs.Swept.{Appends, IsInWorld, IsSwept};
-ghost use Rattle.sweep.specs.Texts.{AreGrown, AreNone, HaveTrials, IsTrialText};
+ghost use Rattle.sweep.specs.Swept.{IsBegun, IsInWorld, IsSwept};
+ghost use Rattle.sweep.specs.Texts.{AreGrown, AreNone, HaveTrials, IsTrialText, text_at};
+ghost use Rattle.sweep.specs.Written.{Stops, Writes};
 
 use crate::drawing::{next_word, order_of};
+use crate::error::RowsError;
 use crate::rows::{Which, append_trial};
 use crate::standing::standing_of;
 use crate::stepping::{change, shift};
 use crate::sweeps::Sweep;
 use crate::trial::Trial;
+use io_edge::{Failed, Sink, write_all};
 use net_names::{Asn, NoMemory};
 use policy_kinds::Kind;
 use rand_core::SeedableRng;
@@ -95,15 +100,40 @@ fn run_trial<T: Trial>(
     Ok(held)
 }
 
-// All trials of a line: appends their rows to the texts, one for each number of adopters. At the end all have their kinds
-// again.
-fn sweep_all<T: Trial>(
+// How many bytes stand in the first text; none where there is no text.
+fn first_len(texts: &[Vec<u8>]) -> usize
+    ensures { result ≡ length (text_at texts.now 0) }
+{
+    match texts.first() {
+        Some(first) => first.len(),
+        None => 0,
+    }
+}
+
+// Writes what stands in the first text from a place on.
+fn write_first<O: Sink>(texts: &[Vec<u8>], from: usize, out: &mut O) -> Result<(), Failed>
+    requires { from ≤ length (text_at texts.now 0) }
+    ensures ok { OnOk result (Appends (O.written out.old) (O.written out.new) (drop from (text_at texts.now 0))) }
+    ensures err { OnErr result
+        (AppendsFront (O.written out.old) (O.written out.new) (drop from (text_at texts.now 0))) }
+    ensures cause { HasCause (O.faults out.old) (O.faults out.new) result }
+{
+    match texts.first() {
+        Some(first) => write_all(out, &first[from..]),
+        None => Ok(()),
+    }
+}
+
+// All trials of a line: appends their rows to the texts, one for each number of adopters, and writes those of the first
+// number as they come. At the end all have their kinds again.
+fn sweep_all<T: Trial, O: Sink>(
     alloc: Global,
     trial: &mut T,
     line: &Sweep,
     standing: &[(Asn, Kind)],
     texts: &mut Vec<Vec<u8>>,
-) -> Result<(), NoMemory>
+    out: &mut O,
+) -> Result<(), RowsError>
     requires standing { standing.now ≡ with_kinds (T.kinds trial.old) (fin.keys (T.ases (T.base trial.old))) }
     requires in_world { IsInWorld (T.ases (T.base trial.old)) (T.is_watched (T.base trial.old)) line.now }
     requires right { T.IsRight trial.old }
@@ -111,6 +141,11 @@ fn sweep_all<T: Trial>(
     ensures texts { OnOk result (HaveTrials (IsTrialText (T.ases (T.base trial.old)) (T.announcers (T.base trial.old))
         (λ kinds. T.AreNumbers (T.base trial.old) kinds line.now.round line.now.addr) (T.kinds trial.old) line.now)
         line.now.trials line.now.ks texts.new.items) }
+    ensures ok { OnOk result (Appends (O.written out.old) (O.written out.new) (text_at texts.new.items 0)) }
+    ensures err { IfErr result (Stops (IsBegun (T.ases (T.base trial.old)) (T.announcers (T.base trial.old))
+        (λ kinds. T.AreNumbers (T.base trial.old) kinds line.now.round line.now.addr) (T.kinds trial.old) line.now)
+        (O.written out.old) (O.written out.new) (HasRisen (O.faults out.old) (O.faults out.new))) }
+    ensures later { O.faults out.old ≤ O.faults out.new }
     ensures kinds { OnOk result ((a : ℕ) → T.kinds trial.new a ≡ T.kinds trial.old a) }
     ensures base { T.base trial.new ≡ T.base trial.old }
     ensures right { T.IsRight trial.new }
@@ -124,55 +159,62 @@ fn sweep_all<T: Trial>(
         let word = next_word(&mut rng);
         let order = order_of(alloc, standing, word, most)?;
         let adopted = &last.as_slice()[..held];
+        let from = first_len(texts);
         held = run_trial(alloc, trial, line, t + 1, adopted, order.as_slice(), texts)?;
         last = order;
+        write_first(texts, from, out)?;
     }
-    change(alloc, trial, &last.as_slice()[..held], &[], line.kind)
+    change(alloc, trial, &last.as_slice()[..held], &[], line.kind)?;
+    Ok(())
 }
 
-// Appends the texts, one after the other.
-fn append_texts(out: &mut Vec<u8>, texts: &[Vec<u8>]) -> Result<(), NoMemory>
-    ensures ok { OnOk result (out.new.items ≡ out.old.items ++ flat_map (λ v. v.items) texts.now) }
-    ensures err { OnErr result (take (length out.old.items) out.new.items ≡ out.old.items) }
+// Writes the texts behind the first, one after the other.
+fn write_others<O: Sink>(texts: &[Vec<u8>], out: &mut O) -> Result<(), Failed>
+    ensures ok { OnOk result
+        (Appends (O.written out.old) (O.written out.new) (flat_map (λ v. v.items) (drop 1 texts.now))) }
+    ensures err { OnErr result
+        (AppendsFront (O.written out.old) (O.written out.new) (flat_map (λ v. v.items) (drop 1 texts.now))) }
+    ensures cause { HasCause (O.faults out.old) (O.faults out.new) result }
 {
-    for text in texts {
-        out.extend_from_slice(text.as_slice())?;
+    'texts: for i in 1..texts.len() {
+        write_all(out, texts[i].as_slice())?;
     }
     Ok(())
 }
 
-/// Appends the text of a sweep: for each number of adopters in the line's order, and for each trial of it from 1 on, the
+/// Writes the text of a sweep: for each number of adopters in the line's order, and for each trial of it from 1 on, the
 /// rows `K|t|to A|n` for each announcing AS at which the packets of n ASes, at least 1, are delivered, `K|t|no-route|n` and
 /// `K|t|loop|n`. The adopters are the ASes with the least draws. The line is in the world: its round and its watched address
 /// are there, and no number of adopters is above that of the ASes. Afterwards the kinds are as before. Where memory runs
-/// out, `out` is as it was, and the kinds may be those of some adopters. The format is this project's own.
+/// out, the rows of some trials from the first on were written, and where a write fails a front of such rows; the kinds may
+/// then be those of some adopters. The format is this project's own.
 ///
 /// The worlds of a trial follow one another in the line's order, each made of the one before by one call that changes
 /// the ASes between the two numbers of adopters alone; the first of a trial is made by one call from the last of the trial
-/// before.
-pub fn sweep_rows<T: Trial>(
+/// before. The rows of the first number of adopters are written when a trial is done, and those of the others, which stand
+/// behind all of them, once all trials are done.
+pub fn sweep_rows<T: Trial, O: Sink>(
     alloc: Global,
     trial: &mut T,
     line: &Sweep,
-    out: &mut Vec<u8>,
-) -> Result<(), NoMemory>
+    out: &mut O,
+) -> Result<(), RowsError>
     requires in_world { IsInWorld (T.ases (T.base trial.old)) (T.is_watched (T.base trial.old)) line.now }
     requires right { T.IsRight trial.old }
-    ensures ok { OnOk result (Appends (IsSwept (T.ases (T.base trial.old)) (T.announcers (T.base trial.old))
+    ensures ok { OnOk result (Writes (IsSwept (T.ases (T.base trial.old)) (T.announcers (T.base trial.old))
         (λ kinds. T.AreNumbers (T.base trial.old) kinds line.now.round line.now.addr) (T.kinds trial.old) line.now)
-        out.old.items out.new.items) }
-    ensures err { OnErr result (out.new.items ≡ out.old.items) }
+        (O.written out.old) (O.written out.new)) }
+    ensures err { IfErr result (Stops (IsBegun (T.ases (T.base trial.old)) (T.announcers (T.base trial.old))
+        (λ kinds. T.AreNumbers (T.base trial.old) kinds line.now.round line.now.addr) (T.kinds trial.old) line.now)
+        (O.written out.old) (O.written out.new) (HasRisen (O.faults out.old) (O.faults out.new))) }
+    ensures later { O.faults out.old ≤ O.faults out.new }
     ensures kinds { OnOk result ((a : ℕ) → T.kinds trial.new a ≡ T.kinds trial.old a) }
     ensures base { T.base trial.new ≡ T.base trial.old }
     ensures right { T.IsRight trial.new }
 {
     let standing = standing_of(alloc, trial)?;
     let mut texts = no_texts(alloc, line.ks.as_slice().len())?;
-    sweep_all(alloc, trial, line, standing.as_slice(), &mut texts)?;
-    let kept = out.len();
-    if append_texts(out, texts.as_slice()).is_err() {
-        out.truncate(kept);
-        return Err(NoMemory);
-    }
+    sweep_all(alloc, trial, line, standing.as_slice(), &mut texts, out)?;
+    write_others(texts.as_slice(), out)?;
     Ok(())
 }

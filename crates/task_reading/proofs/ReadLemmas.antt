@@ -1,5 +1,5 @@
 -- What may have been read of a file.
-use Rattle.std.proofs.Common.{◌≡◌, ◌<◌, ℕ, Bool, true, false, cond, nat_lt, ◌^◌, ◌-◌, List, [], length, Option, Some, None, Result, Ok, Err, IfSome, IsSomeAnd, refl, sym, ap, ◌∙◌, subst, arith, lt-ltb, le-ltb, ◌+◌, ◌≤◌}
+use Rattle.std.proofs.Common.{◌≡◌, ◌<◌, ℕ, Bool, true, false, cond, nat_lt, ◌-◌, List, [], length, Option, Some, None, Result, Ok, Err, IfSome, IsSomeAnd, refl, sym, ap, ◌∙◌, subst, arith, lt-ltb, le-ltb, ◌+◌, ◌≤◌}
 use Rattle.std.proofs.lemmas.List.{length-replicate}
 use Rattle.std.proofs.Common.{replicate, drop}
 use Rattle.std.specs.Io.KnownBytes.{Keeps}
@@ -26,17 +26,7 @@ use Rattle.task_reading.specs.Jobs.{Job}
 use Rattle.task_reading.specs.declared.words.FileOption.{FileOption}
 use Rattle.task_reading.specs.declared.types.Cause.{Cause}
 use Rattle.task_reading.specs.declared.types.Cause.TheVariants as cause
-use Rattle.std.proofs.lemmas.Bool.{ltb-true, ltb-false}
-
-rose_by : (x y : Bool) (a b c m : ℕ) → (x ≡ true → a < m) → (y ≡ false → m ≤ b) → a ≤ b → cond y (b + 1) b ≤ c → cond x (a + 1) a ≤ c
-rose_by true true a b c m low high le h = omega (arith, le, h)
-rose_by true false a b c m low high le h = omega (arith, low refl, high refl, h)
-rose_by false true a b c m low high le h = omega (arith, le, h)
-rose_by false false a b c m low high le h = omega (arith, le, h)
-
--- a count that rose from a later value rose from an earlier one
-pub rose_earlier : (a b c : ℕ) → a ≤ b → HasRisen b c → HasRisen a c
-rose_earlier a b c le h = rose_by (nat_lt a (2 ^ 64 - 1)) (nat_lt b (2 ^ 64 - 1)) a b c (2 ^ 64 - 1) (ltb-true a (2 ^ 64 - 1)) (ltb-false b (2 ^ 64 - 1)) le h
+use Rattle.sweep.proofs.Written.{rose_earlier}
 
 -- what was read of each file
 abbrev pub Reads : Type 0

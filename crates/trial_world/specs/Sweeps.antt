@@ -20,7 +20,7 @@ use Rattle.sim_core.specs.Counting.{how_many}
 use Rattle.sim_core.specs.Families.{Family}
 use Rattle.sim_core.specs.Loaded.{is_other}
 use Rattle.sim_core.specs.World.{World, has_round, kind_at, setting_of, topology}
-use Rattle.sweep.specs.Swept.{IsSwept}
+use Rattle.sweep.specs.Swept.{IsBegun, IsSwept}
 use Rattle.sweep.specs.declared.sweeps.Sweep.{Sweep}
 use Rattle.sweep.specs.declared.trial.Fate.{Fate}
 use Rattle.sweep.specs.declared.trial.Fate.TheVariants as fate
@@ -48,4 +48,9 @@ pub record AreNumbers (w : World) (round : ℕ) (addr : AddrValue) (numbers : Fa
 -- the text of a sweep over the world (own format)
 abbrev pub IsSweptIn : World → Sweep → List ℕ → Type 0
 IsSweptIn w line = IsSwept (fin.from_entries (map (λ a. (a, tt {0})) (ases (topology w))))
+    (announcers_of w.plan) (λ f. AreNumbers (with_kinds w f) line.round line.addr) (kind_at w) line
+
+-- the beginning of that text: the rows of some trials of the line, from the first on
+abbrev pub IsBegunIn : World → Sweep → List ℕ → Type 0
+IsBegunIn w line = IsBegun (fin.from_entries (map (λ a. (a, tt {0})) (ases (topology w))))
     (announcers_of w.plan) (λ f. AreNumbers (with_kinds w f) line.round line.addr) (kind_at w) line

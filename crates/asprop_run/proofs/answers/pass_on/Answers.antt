@@ -2,7 +2,8 @@ use Rattle.std.proofs.Common.{◌≡◌, ◌++◌, append-nil, sym, ap, subst, �
 use Rattle.std.proofs.lemmas.Result.{on_ok_weaker}
 use Rattle.io_edge.specs.Bytes.{Appends}
 use Rattle.io_edge.proofs.Appending.{Appends-trans}
-use Rattle.asprop_run.proofs.Answering.{Appends-front, on_err, unless_ok}
+use Rattle.sweep.proofs.Written.{Appends-front}
+use Rattle.asprop_run.proofs.Answering.{on_err, unless_ok}
 use Rattle.asprop_run.proofs.answers.pass_on.Goals as goal
 use Rattle.asprop_run.proofs.answers.pass_on.Goals.{else-is_little-via-then-is_little+else-is_ok, else-is_little-via-else-is_little}
 

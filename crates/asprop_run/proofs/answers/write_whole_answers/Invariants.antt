@@ -3,7 +3,7 @@ use Rattle.sim_core.specs.World.{HasCycle}
 use Rattle.asprop_run.specs.Inside.{AreInside}
 use Rattle.asprop_run.specs.Loaded.{Serves, loaded_world}
 use Rattle.asprop_run.proofs.Answering.{SoFar}
-use Rattle.asprop_run.proofs.answers.write_answers.Given as goal
+use Rattle.asprop_run.proofs.answers.write_whole_answers.Given as goal
 
 abbrev pub invariant-jobs : goal.invariant-jobs
 invariant-jobs g l = record {
