@@ -1,0 +1,7 @@
+pub mod Starts
+pub mod Links
+pub mod Placed
+pub mod Trees
+pub mod Chosen
+pub mod Ends
+pub mod Prelude
