@@ -1,4 +1,4 @@
--- What the rows of a watch count is what the ASes of a trial's world count.
+-- What is counted of the ends of packets is what the ASes of a trial's world count.
 use Rattle.std.proofs.Common.{◌≡◌, ℕ, ◌+◌, ◌-◌, Bool, true, false, not, ◌&&◌, cond, Some, List, [], ◌∷◌, map, refl, sym, ap, ◌∙◌, arith}
 use Rattle.std.specs.Prelude.{count_by, nat_eq, slice_get}
 use Rattle.std.specs.List.{IsDistinct}
@@ -6,6 +6,7 @@ use Rattle.net_names.specs.Numbers.{occurs}
 use Rattle.as_graph.specs.Topology.{Topology, ases, has}
 use Rattle.data_trace.specs.Watches.{AreRows, Row, count_of, is_end}
 use Rattle.data_trace.specs.contracts.kinds.EndPartialEq.TheImpl as same_end_test
+use Rattle.data_trace.specs.declared.kinds.End.{End}
 use Rattle.data_trace.specs.declared.kinds.End.TheVariants as the_end
 use Rattle.data_trace.specs.declared.kinds.Hop.{Hop}
 use Rattle.data_trace.specs.declared.kinds.Which.TheVariants.{All}
@@ -43,37 +44,36 @@ none_pass (x ∷ xs) = (let rest = none_pass xs in let more = one_more (λ y. fa
 same_count : (p q : ℕ → Bool) (xs ys : List ℕ) → IsDistinct nat_eq xs → IsDistinct nat_eq ys → ((a : ℕ) → (p a && occurs a xs) ≡ (q a && occurs a ys)) → count_by p xs ≡ count_by q ys
 same_count p q xs ys d e same = sym (counted_once p xs d) ∙ same_many p q xs ys same ∙ counted_once q ys e
 
-module _ (g : Topology) (next : ℕ → Hop) (label_of : ℕ → ℕ) (rows : List Row) (are : AreRows g next label_of rows) (v : World) (fewer : (a : ℕ) → has (topology v) a ≡ true → has g a ≡ true) (lost : (a : ℕ) → has g a ≡ true → has (topology v) a ≡ false → end_at rows a ≡ the_end.NoRoute)
-    (lone : List ℕ) (apart : IsDistinct nat_eq lone) (plain : ℕ → Bool) (gone_are : (a : ℕ) → has g a ≡ true → (not (has (topology v) a)) ≡ (occurs a lone && plain a)) (there : (a : ℕ) → occurs a lone ≡ true → has g a ≡ true) where
-  abbrev names : List ℕ
-  names = map (λ r. r.asn) rows
-
-  abbrev pub test : Fate → ℕ → Bool
-  test f a = (same_end_test.ghosts).eq (end_at rows a) (end_of f)
-
+-- the ends of rows that are right are counted by the ASes
+module _ (g : Topology) (next : ℕ → Hop) (label_of : ℕ → ℕ) (rows : List Row) (are : AreRows g next label_of rows) where
   row_there : (k : ℕ) (r : Row) → slice_get rows k ≡ Some r → has g r.asn ≡ true
-  row_there k r at = sym (are.listed r.asn) ∙ stands r.asn k names (map_at (λ (s : Row). s.asn) rows k r at)
+  row_there k r at = sym (are.listed r.asn) ∙ stands r.asn k (map (λ s. s.asn) rows) (map_at (λ (s : Row). s.asn) rows k r at)
 
-  by_rows : (f : Fate) → count_of rows All (end_of f) ≡ count_by (test f) names
+  pub by_rows : (f : Fate) → count_of rows All (end_of f) ≡ count_by (λ a. (same_end_test.ghosts).eq (end_at rows a) (end_of f)) (map (λ r. r.asn) rows)
   by_rows f =
-      count_alike (λ (r : Row). true && is_end r.end (end_of f)) (λ r. test f r.asn) rows (λ k r at.
+      count_alike (λ (r : Row). true && is_end r.end (end_of f)) (λ r. (same_end_test.ghosts).eq (end_at rows r.asn) (end_of f)) rows (λ k r at.
       let (walk, trace) = (are.right k r at).trace in
       let (way, ends) = ends_at g next label_of rows are r.asn (row_there k r at) in
       ap (λ e. is_end e (end_of f)) (same_end next next (λ a. refl) r.asn walk way r.end (end_at rows r.asn) trace ends) ∙ is_end_same (end_at rows r.asn) (end_of f))
-      ∙ count_named (test f) rows
+      ∙ count_named (λ a. (same_end_test.ghosts).eq (end_at rows a) (end_of f)) rows
+
+module _ (g : Topology) (names : List ℕ) (listed : (a : ℕ) → occurs a names ≡ has g a) (distinct : IsDistinct nat_eq names) (ends : ℕ → End) (v : World) (fewer : (a : ℕ) → has (topology v) a ≡ true → has g a ≡ true) (lost : (a : ℕ) → has g a ≡ true → has (topology v) a ≡ false → ends a ≡ the_end.NoRoute)
+    (lone : List ℕ) (apart : IsDistinct nat_eq lone) (plain : ℕ → Bool) (gone_are : (a : ℕ) → has g a ≡ true → (not (has (topology v) a)) ≡ (occurs a lone && plain a)) (there : (a : ℕ) → occurs a lone ≡ true → has g a ≡ true) where
+  abbrev pub test : Fate → ℕ → Bool
+  test f a = (same_end_test.ghosts).eq (ends a) (end_of f)
 
   in_world : (p : ℕ → Bool) → how_many v p ≡ count_by (λ a. has (topology v) a && p a) names
   in_world p =
       same_many p (λ a. has (topology v) a && p a) (ases (topology v)) names (λ a. by a (has (topology v) a) refl (p a))
-      ∙ counted_once (λ a. has (topology v) a && p a) names are.apart
+      ∙ counted_once (λ a. has (topology v) a && p a) names distinct
     where
       by : (a : ℕ) (t : Bool) → has (topology v) a ≡ t → (s : Bool) → (s && t) ≡ ((t && s) && occurs a names)
-      by a true e true = sym (are.listed a ∙ fewer a e)
+      by a true e true = sym (listed a ∙ fewer a e)
       by a true e false = refl
       by a false e s = and_false s
 
   name_there : (k a : ℕ) → slice_get names k ≡ Some a → has g a ≡ true
-  name_there k a at = sym (are.listed a) ∙ stands a k names at
+  name_there k a at = sym (listed a) ∙ stands a k names at
 
   -- of those that are gone none is delivered or runs in a loop
   none_gone : (f : Fate) → (same_end_test.ghosts).eq the_end.NoRoute (end_of f) ≡ false → count_by (λ a. not (has (topology v) a) && test f a) names ≡ 0
@@ -87,14 +87,14 @@ module _ (g : Topology) (next : ℕ → Hop) (label_of : ℕ → ℕ) (rows : Li
   all_gone : count_by (λ a. not (has (topology v) a) && test fate.NoRoute a) names ≡ count_by plain lone
   all_gone =
       count_alike (λ a. not (has (topology v) a) && test fate.NoRoute a) (λ a. occurs a lone && plain a) names (λ k a at. by a (name_there k a at) (has (topology v) a) refl ∙ gone_are a (name_there k a at))
-      ∙ same_count (λ a. occurs a lone && plain a) plain names lone are.apart apart (λ a. both a (occurs a lone) refl (plain a))
+      ∙ same_count (λ a. occurs a lone && plain a) plain names lone distinct apart (λ a. both a (occurs a lone) refl (plain a))
     where
       by : (a : ℕ) → has g a ≡ true → (t : Bool) → has (topology v) a ≡ t → (not (has (topology v) a) && test fate.NoRoute a) ≡ not (has (topology v) a)
       by a here true e = ap (λ t. not t && test fate.NoRoute a) e ∙ ap not (sym e)
       by a here false e = ap (λ t. not t && test fate.NoRoute a) e ∙ ap (λ x. (same_end_test.ghosts).eq x the_end.NoRoute) (lost a here e) ∙ ap not (sym e)
 
       both : (a : ℕ) (t : Bool) → occurs a lone ≡ t → (s : Bool) → ((t && s) && occurs a names) ≡ (s && t)
-      both a true e true = are.listed a ∙ there a e
+      both a true e true = listed a ∙ there a e
       both a true e false = refl
       both a false e s = sym (and_false s)
 
@@ -104,10 +104,10 @@ module _ (g : Topology) (next : ℕ → Hop) (label_of : ℕ → ℕ) (rows : Li
   gone_count fate.Loop = none_gone fate.Loop refl
 
   -- the number of each fate, less those without a route that are gone
-  pub number_is : (f : Fate) → count_of rows All (end_of f) - gone_with f (count_by plain lone) ≡ how_many v (test f)
-  number_is f =
-      let whole : count_of rows All (end_of f) ≡ count_by (λ a. has (topology v) a && test f a) names + count_by (λ a. not (has (topology v) a) && test f a) names =
-      by_rows f ∙ split (test f) (has (topology v)) names in
+  pub number_is : (f : Fate) (n : ℕ) → n ≡ count_by (test f) names → n - gone_with f (count_by plain lone) ≡ how_many v (test f)
+  number_is f n is =
+      let whole : n ≡ count_by (λ a. has (topology v) a && test f a) names + count_by (λ a. not (has (topology v) a) && test f a) names =
+      is ∙ split (test f) (has (topology v)) names in
       let less : count_by (λ a. not (has (topology v) a) && test f a) names ≡ gone_with f (count_by plain lone) = gone_count f in
       let here : how_many v (test f) ≡ count_by (λ a. has (topology v) a && test f a) names = in_world (test f) in
       omega (arith, whole, less, here)

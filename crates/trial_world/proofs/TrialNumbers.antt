@@ -1,4 +1,4 @@
--- The numbers of ASes with each fate in a world: there is one of each, and a watch has it.
+-- The numbers of ASes with each fate in a world: there is one of each, and what is kept has it.
 use Rattle.std.proofs.Common.{◌≡◌, ℕ, zero, suc, ◌<◌, ◌≤◌, ◌&&◌, ◌||◌, Bool, true, false, not, cond, is_some, true≢false, Option, None, List, refl, sym, ap, subst, ◌∙◌, arith}
 use Rattle.std.specs.Prelude.{count_by, if◌then◌else◌}
 use Rattle.std.specs.FinMap as fin
@@ -25,23 +25,19 @@ use Rattle.stability_laws.specs.declared.entry.Entry.{Entry}
 use Rattle.stability_laws.specs.declared.entry.Seed.{Seed}
 use Rattle.data_trace.specs.Hops.{next_hop}
 use Rattle.data_trace.specs.Traces.{IsTrace}
-use Rattle.data_trace.specs.Views.{rows_of}
-use Rattle.data_trace.specs.Watches.{Row}
 use Rattle.data_trace.specs.contracts.kinds.EndPartialEq.TheImpl as same_end_test
 use Rattle.data_trace.specs.declared.kinds.End.TheVariants as the_end
 use Rattle.data_trace.specs.declared.kinds.Hop.{Hop}
-use Rattle.data_trace.specs.declared.watch.Watch.{Watch}
 use Rattle.sweep.specs.declared.trial.Fate.{Fate}
 use Rattle.sim_core.specs.Counting.{how_many}
 use Rattle.sim_core.specs.Families.{Family}
 use Rattle.sim_core.specs.Kept.{IsKept, Kept}
 use Rattle.sim_core.specs.Lent.{IsGraphOf}
 use Rattle.sim_core.specs.Loaded.{is_other}
-use Rattle.sim_core.specs.Watching.{end_at}
 use Rattle.sim_core.specs.World.{World, has_round, setting_of, topology}
 use Rattle.trial_world.specs.Fixed.{AreLone, IsFixed, IsPlanFor, is_lone, is_named, world_of}
 use Rattle.trial_world.specs.Sweeps.{AreNumbers, end_of, with_kinds}
-use Rattle.trial_world.specs.Trials.{AreCounted, IsWatchIn, number_in, plain_in}
+use Rattle.trial_world.specs.Trials.{AreCounted, AreEndsIn, less_gone, plain_in}
 use Rattle.trial_world.specs.declared.fixed.Fixed.{Fixed}
 use Rattle.trial_world.proofs.NextHops.{lost_end, no_next, same_end}
 use Rattle.sim_core.proofs.Families.{same_next}
@@ -49,7 +45,7 @@ use Rattle.trial_world.proofs.PartPlans.{unknown}
 use Rattle.trial_world.proofs.Routings.{nothing_stable, one_to, seeds_whole, stable_moved}
 use Rattle.trial_world.proofs.RowCounts.{number_is}
 use Rattle.sim_core.proofs.PolicyEdits.{leakers, named_by, occurs_keys}
-use Rattle.sim_core.proofs.Rows.{ends_at, many_alike}
+use Rattle.sim_core.proofs.Rows.{many_alike}
 use Rattle.trial_world.proofs.TrialWorlds.{gone_is, gone_lone, kind_given, no_more}
 use Rattle.sim_core.proofs.Watches.{round_within}
 use Rattle.sim_core.proofs.Unnamed.{unseeded}
@@ -95,12 +91,9 @@ lone_unseeded g plan a lone = unseeded plan fin.empty a (named_by plan fin.empty
     by false true h = absurd (true≢false (sym h))
     by false false h = refl
 
-module _ (right : RightFollows kind_policy) (w : World) (g : Topology) (is : IsGraphOf w g) (book : PolicyBook Kind) (addr : AddrValue) (before : ℕ) (part : Plan) (sound : IsSound part) (are : IsPlanFor addr (suc before) w.plan part) (lone : List ℕ) (lone_are : AreLone g w.plan lone) (watch : Watch) (of : IsWatchIn g w.payloads book w.plan part (suc before) addr watch) where
+module _ (right : RightFollows kind_policy) (w : World) (g : Topology) (is : IsGraphOf w g) (book : PolicyBook Kind) (addr : AddrValue) (before : ℕ) (part : Plan) (sound : IsSound part) (are : IsPlanFor addr (suc before) w.plan part) (lone : List ℕ) (lone_are : AreLone g w.plan lone) (number : Fate → ℕ) (of : AreEndsIn g w.payloads book w.plan part (suc before) addr number) where
   abbrev v : World
   v = with_kinds w (policy_at book)
-
-  abbrev rows : List Row
-  rows = rows_of watch
 
   there : (a : ℕ) → has g a ≡ has (topology w) a
   there a = ap (λ (t : Topology). has t a) is
@@ -135,36 +128,36 @@ module _ (right : RightFollows kind_policy) (w : World) (g : Topology) (is : IsG
       by p true e = sym (ap (λ (t : Bool). cond t (of.held (suc before) p) (λ b. None) a) e)
       by p false e = of.none p e a ∙ sym (ap (λ (t : Bool). cond t (of.held (suc before) p) (λ b. None) a) e)
 
-  trace_at : (a : ℕ) → has g a ≡ true → (walk : List ℕ) × IsTrace (next_hop w.plan (held (suc before)) addr) a walk (end_at rows a)
+  trace_at : (a : ℕ) → has g a ≡ true → (walk : List ℕ) × IsTrace (next_hop w.plan (held (suc before)) addr) a walk (of.ends a)
   trace_at a here =
-      let (walk, trace) = ends_at g (next_hop w.plan (of.held (suc before)) addr) of.label rows of.rows a here in
-      (walk, subst (λ (next : ℕ → Hop). IsTrace next a walk (end_at rows a)) (λ i b. same_hop b i) trace)
+      let (walk, trace) = of.traces a here in
+      (walk, subst (λ (next : ℕ → Hop). IsTrace next a walk (of.ends a)) (λ i b. same_hop b i) trace)
 
-  lost : (a : ℕ) → has g a ≡ true → has (topology v) a ≡ false → end_at rows a ≡ the_end.NoRoute
+  lost : (a : ℕ) → has g a ≡ true → has (topology v) a ≡ false → of.ends a ≡ the_end.NoRoute
   lost a here gone =
       let (walk, trace) = trace_at a here in
-      lost_end (next_hop w.plan (held (suc before)) addr) a walk (end_at rows a) (no_next w.plan (held (suc before)) addr a (λ p known over. (stable_at before p (omega arith) known over).only_ases a gone)) trace
+      lost_end (next_hop w.plan (held (suc before)) addr) a walk (of.ends a) (no_next w.plan (held (suc before)) addr a (λ p known over. (stable_at before p (omega arith) known over).only_ases a gone)) trace
 
   gone_are : (a : ℕ) → has g a ≡ true → not (has (topology v) a) ≡ (occurs a lone && not (is_other (a, policy_at book a)))
   gone_are a here =
       gone_is w (policy_at book) a (sym (there a) ∙ here)
       ∙ ap (λ t. t && not (is_other (a, policy_at book a))) (sym (lone_are.are a ∙ ap (λ t. t && is_lone g w.plan a) here ∙ ap (λ (t : Topology). is_lone t w.plan a) is))
 
-  -- the numbers of a watch are right in the world of the trial
-  pub numbers_by : AreNumbers v (suc before) addr (number_in watch (count_by (λ a. not (is_other (a, policy_at book a))) lone))
+  -- the numbers are right in the world of the trial
+  pub numbers_by : AreNumbers v (suc before) addr (less_gone number (count_by (λ a. not (is_other (a, policy_at book a))) lone))
   numbers_by = record {
     held = held;
-    ends = end_at rows;
+    ends = of.ends;
     stable = stable_at;
     traces = λ a h. trace_at a (fewer a h);
-    counted = number_is g (next_hop w.plan (of.held (suc before)) addr) of.label rows of.rows v fewer lost lone lone_are.apart (λ a. not (is_other (a, policy_at book a))) gone_are (λ a h. (and_parts (has g a) (is_lone g w.plan a) (sym (lone_are.are a) ∙ h)).0);
+    counted = λ f. number_is g of.names of.listed of.apart of.ends v fewer lost lone lone_are.apart (λ a. not (is_other (a, policy_at book a))) gone_are (λ a h. (and_parts (has g a) (is_lone g w.plan a) (sym (lone_are.are a) ∙ h)).0) f (number f) (of.counted f);
   }
 
 -- so are those of what is made for a line
-pub numbers_for : RightFollows kind_policy → (f : Fixed) → IsFixed f → IsSound f.plan → (book : PolicyBook Kind) (watch : Watch) → IsWatchIn f.graph.now (world_of f).payloads book (world_of f).plan f.plan f.round f.addr watch → AreCounted f book watch (plain_in f.lone.items book)
-numbers_for right f is sound book watch of = by f.round is.from is.plan of
+pub numbers_for : RightFollows kind_policy → (f : Fixed) → IsFixed f → IsSound f.plan → (book : PolicyBook Kind) (number : Fate → ℕ) → AreEndsIn f.graph.now (world_of f).payloads book (world_of f).plan f.plan f.round f.addr number → AreCounted f book (less_gone number (plain_in f.lone.items book))
+numbers_for right f is sound book number of = by f.round is.from is.plan of
   where
-    by : (round : ℕ) → 1 ≤ round → IsPlanFor f.addr round (world_of f).plan f.plan → IsWatchIn f.graph.now (world_of f).payloads book (world_of f).plan f.plan round f.addr watch
-        → AreNumbers (with_kinds (world_of f) (policy_at book)) round f.addr (number_in watch (plain_in f.lone.items book))
+    by : (round : ℕ) → 1 ≤ round → IsPlanFor f.addr round (world_of f).plan f.plan → AreEndsIn f.graph.now (world_of f).payloads book (world_of f).plan f.plan round f.addr number
+        → AreNumbers (with_kinds (world_of f) (policy_at book)) round f.addr (less_gone number (plain_in f.lone.items book))
     by zero some are of = absurd (omega (arith, some))
-    by (suc before) some are of = numbers_by right (world_of f) f.graph.now is.graph book f.addr before f.plan sound are f.lone.items is.lone watch of
+    by (suc before) some are of = numbers_by right (world_of f) f.graph.now is.graph book f.addr before f.plan sound are f.lone.items is.lone number of

@@ -24,7 +24,9 @@ use Rattle.stability_laws.specs.World.{setting}
 use Rattle.stability_laws.specs.declared.entry.Entry.{Entry}
 use Rattle.data_trace.specs.Hops.{next_hop}
 use Rattle.data_trace.specs.Views.{addr_of, rows_of}
-use Rattle.data_trace.specs.Watches.{AreRows, IsRowOf, Row}
+use Rattle.data_trace.specs.Watches.{AreRows, IsRowOf, Row, count_of}
+use Rattle.data_trace.specs.declared.kinds.Hop.{Hop}
+use Rattle.data_trace.specs.declared.kinds.Which.TheVariants.{All}
 use Rattle.data_trace.specs.declared.watch.Watch.{Watch}
 use Rattle.leak_round.specs.Plans.{kept_with, plan_after}
 use Rattle.leak_round.specs.Rounds.{is_open, kept, plan_of, round_count}
@@ -34,16 +36,20 @@ use Rattle.leak_round.specs.declared.plans.RoundsPlan.{RoundsPlan}
 use Rattle.leak_round.specs.declared.rounds.Rounds.{Rounds}
 use Rattle.leak_round.specs.declared.touched.Touched.{Touched}
 use Rattle.sim_core.specs.Families.{Family}
+use Rattle.sim_core.specs.Watching.{end_at}
 use Rattle.sim_core.specs.World.{topology}
 use Rattle.sim_core.proofs.Announcers.{announcer_there}
 use Rattle.sim_core.proofs.Families.{same_next}
 use Rattle.sim_core.proofs.Grounds.{rounds_as, same_exports}
+use Rattle.sim_core.proofs.Rows.{ends_at}
 use Rattle.trial_world.specs.Fixed.{IsFixed, label_in, world_of}
 use Rattle.trial_world.specs.Tables.{AreLineRounds, AreLineRows, AreTablesIn, AreTouched, HadKinds, IsTouchedAround, StayTables}
-use Rattle.trial_world.specs.Trials.{IsWatchIn}
+use Rattle.trial_world.specs.Sweeps.{end_of}
+use Rattle.trial_world.specs.Trials.{AreEndsIn}
 use Rattle.trial_world.specs.declared.fixed.Fixed.{Fixed}
 use Rattle.trial_world.specs.declared.tables.LineTables.{LineTables}
 use Rattle.trial_world.proofs.PartPlans.{announces_whole}
+use Rattle.trial_world.proofs.RowCounts.{by_rows}
 use Rattle.trial_world.proofs.Watched.{no_table}
 
 -- ---- what is counted by the tables
@@ -56,15 +62,21 @@ nothing_held rounds round p away a = by (tables_in rounds.tables.items round) re
     by None e = refl
     by (Some t) e = no_table rounds.pool t p ((rounds.full round t e).there p ∙ away) a
 
--- the watch of the tables is that of the line in the world of the book
-pub watch_in : (f : Fixed) → IsFixed f → (book : PolicyBook Kind) (t : LineTables) → AreTablesIn f book t → IsWatchIn f.graph.now (world_of f).payloads book (world_of f).plan f.plan f.round f.addr t.watch
-watch_in f is book t are = record {
-  held = kept t.rounds;
-  stable = subst (λ (v : Payloads). AreRounds (λ p. setting kind_policy f.graph.now book (state_of v p)) f.plan f.round (kept t.rounds)) is.payloads are.stable;
-  none = λ p away a. nothing_held t.rounds f.round p (ap (λ (x : Plan). has_prefix x p) are.line.plan_is ∙ away) a;
-  label = label_in f;
-  rows = are.rows;
-}
+-- the watch of the tables counts the ends of packets in the world of the book
+pub ends_in : (f : Fixed) → IsFixed f → (book : PolicyBook Kind) (t : LineTables) → AreTablesIn f book t → AreEndsIn f.graph.now (world_of f).payloads book (world_of f).plan f.plan f.round f.addr (λ x. count_of (rows_of t.watch) All (end_of x))
+ends_in f is book t are =
+    let next : ℕ → Hop = next_hop (world_of f).plan (kept t.rounds f.round) f.addr in
+    record {
+      held = kept t.rounds;
+      stable = subst (λ (v : Payloads). AreRounds (λ p. setting kind_policy f.graph.now book (state_of v p)) f.plan f.round (kept t.rounds)) is.payloads are.stable;
+      none = λ p away a. nothing_held t.rounds f.round p (ap (λ (x : Plan). has_prefix x p) are.line.plan_is ∙ away) a;
+      names = map (λ (r : Row). r.asn) (rows_of t.watch);
+      listed = are.rows.listed;
+      apart = are.rows.apart;
+      ends = end_at (rows_of t.watch);
+      traces = ends_at f.graph.now next (label_in f) (rows_of t.watch) are.rows;
+      counted = by_rows f.graph.now next (label_in f) (rows_of t.watch) are.rows;
+    }
 
 -- ---- tables that stay
 

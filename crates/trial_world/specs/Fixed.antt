@@ -10,6 +10,7 @@ use Rattle.as_graph.specs.Hierarchy.{HasNoProviderCycle, IsRank}
 use Rattle.as_graph.specs.Topology.{Topology, has, relation, unmarked}
 use Rattle.policy_kinds.specs.Kinds.{label}
 use Rattle.rank_order.specs.Plans.{IsLastPlan, rank_after}
+use Rattle.rank_order.specs.Ranks.{rank_at}
 use Rattle.three_pass.specs.Courses.{IsCourse}
 use Rattle.stability_laws.specs.Plans.{Plan, announced_path, announcers_of, announces, has_prefix, leaks_in}
 use Rattle.leak_round.specs.Limits.{IsWithinLimits}
@@ -63,6 +64,7 @@ pub record IsFixed (f : Fixed) : Type 0 where
   pub payloads : f.states.payloads ≡ (world_of f).payloads
   pub course : IsCourse f.graph.now f.course
   pub no_cycle : HasNoProviderCycle (relation f.graph.now)
+  pub ranked : (a : ℕ) → IsRank (relation f.graph.now) a (rank_at f.ranks.now a)
   pub last : IsLastPlan f.ranks.now f.rank_plan
   pub ranks_are : (a : ℕ) → IsRank (relation f.graph.now) a (rank_after f.ranks.now f.rank_plan a)
   pub plan : IsPlanFor f.addr f.round (world_of f).plan f.plan

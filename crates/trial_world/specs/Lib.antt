@@ -3,3 +3,4 @@ pub mod Laws
 pub mod Fixed
 pub mod Tables
 pub mod Trials
+pub mod Trees

@@ -9,6 +9,7 @@
 
 mod fixed;
 mod inside;
+mod kept;
 mod kinds;
 mod laws;
 mod lone;
@@ -16,6 +17,7 @@ mod parts;
 mod sweeping;
 mod tables;
 mod touching;
+mod trees;
 mod trial;
 
 pub use inside::is_inside;

@@ -37,6 +37,6 @@ pub fn put_sweep<O: Sink>(
     ensures later { O.faults out.old ≤ O.faults out.new }
 {
     let fixed = fixed_for(alloc, base, ranks, line)?;
-    let mut trial = trial_of(fixed)?;
+    let mut trial = trial_of(fixed, line)?;
     sweep_rows(alloc, &mut trial, line, out)
 }

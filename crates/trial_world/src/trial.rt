@@ -3,19 +3,17 @@ ghost use Rattle.std.specs.Prelude.{◌≡◌, ℕ, IfOk};
 ghost use Rattle.sim_core.specs.Prelude.{kind_at};
 ghost use Rattle.stability_laws.specs.Prelude.{policy_at};
 ghost use Rattle.trial_world.specs.Fixed.{IsFixed, world_of};
-ghost use Rattle.trial_world.specs.Sweeps.{end_of as the_end_of};
-ghost use Rattle.trial_world.specs.Trials.{IsRight, gone_with as gone_with_fate, line_base, number_in};
+ghost use Rattle.trial_world.specs.Trials.{IsRight, count_in, gone_with as gone_with_fate, less_gone, line_base};
 
 use crate::fixed::Fixed;
+use crate::kept::{Kept, kept_for};
 use crate::kinds::{copy_at, give_all, kinds_of, room_for};
 use crate::lone::plain_count;
-use crate::tables::{LineTables, tables_by};
-use data_trace::{End, Which};
 use net_names::{Addr, Asn, NoMemory};
 use policy_kinds::Kind;
 use rank_order::by_rank;
 use stability_laws::{Book, plans_are_sound, right_follows};
-use sweep::{Fate, Trial};
+use sweep::{Fate, Sweep, Trial};
 
 /// A trial of a line: the kind of each AS now, the tables of the line's rounds with the watch for its address, and how many
 /// of the ASes at the start are none of this world.
@@ -23,19 +21,8 @@ use sweep::{Fate, Trial};
 pub struct LineTrial<'a> {
     pub(crate) fixed: Fixed<'a>,
     pub(crate) book: Book<Kind>,
-    pub(crate) tables: LineTables,
+    pub(crate) kept: Kept,
     pub(crate) gone: u64,
-}
-
-// How the traces of the packets with a fate end.
-fn end_of(fate: Fate) -> End
-    ensures { result ≡ the_end_of fate }
-{
-    match fate {
-        Fate::At(asn) => End::At(asn),
-        Fate::NoRoute => End::NoRoute,
-        Fate::Loop => End::Loop,
-    }
 }
 
 // How many of so many ASes that are gone have no route, where that is the fate.
@@ -49,7 +36,7 @@ fn gone_with(fate: &Fate, gone: u64) -> u64
 }
 
 /// The trial of a line in which no AS has changed its kind yet.
-pub fn trial_of<'a>(fixed: Fixed<'a>) -> Result<LineTrial<'a>, NoMemory>
+pub fn trial_of<'a>(fixed: Fixed<'a>, line: &Sweep) -> Result<LineTrial<'a>, NoMemory>
     requires { IsFixed fixed }
     ensures right { IfOk result IsRight }
     ensures base { IfOk result (λ t. line_base t ≡ (world_of fixed.entry, (fixed.entry.round, fixed.entry.addr))) }
@@ -59,12 +46,12 @@ pub fn trial_of<'a>(fixed: Fixed<'a>) -> Result<LineTrial<'a>, NoMemory>
     // Policies are sought at the places of ASes by rank first, as propagation goes along them.
     let order = by_rank(alloc, fixed.graph, fixed.ranks)?;
     let book = copy_at(alloc, fixed.base.book(), order.as_slice())?;
-    let tables = tables_by(&fixed, &book)?;
+    let kept = kept_for(&fixed, &book, line)?;
     let gone = plain_count(fixed.lone.as_slice(), &book);
     Ok(LineTrial {
         fixed,
         book,
-        tables,
+        kept,
         gone,
     })
 }
@@ -88,7 +75,7 @@ impl<'a> Trial for LineTrial<'a> {
 
     ghost kinds = { λ t. policy_at t.book };
 
-    ghost numbers = { λ t round addr. number_in t.tables.watch t.gone };
+    ghost numbers = { λ t round addr. less_gone (count_in t.kept) t.gone };
 
     ghost AreNumbers = { λ b kinds round addr. AreNumbers (with_kinds b.0 kinds) round addr };
 
@@ -110,7 +97,7 @@ impl<'a> Trial for LineTrial<'a> {
         right_follows::<Kind>();
         plans_are_sound(&self.fixed.plan);
         let gone = gone_with(&fate, self.gone);
-        let count = self.tables.watch.count(Which::All, end_of(fate));
+        let count = self.kept.count(&self.fixed, fate);
         count.saturating_sub(gone)
     }
 
@@ -119,7 +106,7 @@ impl<'a> Trial for LineTrial<'a> {
         room_for(&mut self.book, changes)?;
         give_all(&mut self.book, changes);
         let had = before.as_slice();
-        match self.tables.follow(&self.fixed, &self.book, had) {
+        match self.kept.follow(&self.fixed, &self.book, had) {
             Ok(()) => {
                 self.gone = plain_count(self.fixed.lone.as_slice(), &self.book);
                 Ok(())

@@ -32,6 +32,7 @@ returns-clause-right c =
       payloads = c.in_ok-states.ensures ∙ c.vrps.ensures;
       course = c.in_ok-course.ensures;
       no_cycle = c.kept_are_stable.ensures.no_cycle w g c.graph-graph.ensures c.requires.no_cycle;
+      ranked = ranked w g ranks c.graph-graph.ensures c.requires.ranks;
       last = c.none-rank_plan.ensures.last ranks;
       ranks_are = λ a. subst (λ (n : ℕ). IsRank (relation g) a n) (sym (c.none-rank_plan.ensures.same ranks a)) (ranked w g ranks c.graph-graph.ensures c.requires.ranks a);
       plan = subst (λ (t : Plan). IsPlanFor c.args.line.now.addr c.args.line.now.round t c.in_ok-plan.plan) whole c.in_ok-plan.ensures.part;

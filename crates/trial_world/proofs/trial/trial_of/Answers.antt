@@ -8,7 +8,7 @@ use Rattle.trial_world.proofs.trial.trial_of.Goals as goal
 pub returns-clause-right : goal.returns-clause-right
 returns-clause-right c = record {
   fixed = c.requires;
-  tables = c.in_ok-tables.ensures;
+  kept = c.in_ok-kept.ensures;
   gone = c.plain_count-gone.ensures ∙ ap (λ xs. plain_in xs c.in_ok-book.book) c.as_slice-2.ensures.value;
 }
 
