@@ -132,9 +132,9 @@ impl RoutingTree {
         ensures { (p : Policy) (all : Option AState) → TakesPlainly p (IsOf all) → AreStatesOf all self.now →
             IsDistinct nat_eq placed.now.ases.now →
             ((j : ℕ) → occurs j (list_at placed.now.links.now.peers at) ≡ true →
-                slice_get self.now.lows.items j ≢ Some true) →
+            slice_get self.now.lows.items j ≢ Some true) →
             IsChosen p placed.now.ases.now self.now (LooksDownAt self.now placed.now.links.now at)
-                (option_map (best_at placed.now.ases.now self.now) result) }
+            (option_map (best_at placed.now.ases.now self.now) result) }
     {
         let mut best: Option<usize> = None;
         let mut least: u32 = 0;
@@ -144,8 +144,8 @@ impl RoutingTree {
             if length != 0 {
                 let wins = match best {
                     None => true,
-                    Some(old) =>
-                        length < least || length == least && placed.ases[from] < placed.ases[old],
+                    Some(old) => length < least
+                        || length == least && placed.ases[from] < placed.ases[old],
                 };
                 if wins {
                     best = Some(from);
