@@ -1,1 +1,10 @@
-
+pub mod Puts
+pub mod Parents
+pub mod Places
+pub mod Offered
+pub mod Taken
+pub mod Cases
+pub mod Givers
+pub mod GoingUp
+pub mod GoingDown
+pub mod Grown
