@@ -19,11 +19,11 @@ listed_book ases kinds = record { rest = Plain; named = fin.from_entries (map (�
 
 found : (kinds : ℕ → Kind) (a : ℕ) (xs : List ℕ) → find nat_cmp a (map (λ b. (b, kinds b)) xs) ≡ cond (occurs a xs) (Some (kinds a)) None
 found kinds a [] = refl
-found kinds a (x ∷ xs) = ap (λ t. cond t (Some (kinds x)) (find nat_cmp a (map (λ b. (b, kinds b)) xs))) (is_key a x) ∙ by (x == a) refl
+found kinds a (x ∷ xs) = ap (λ t. cond t (Some (kinds x)) (find nat_cmp a (map (λ b. (b, kinds b)) xs))) (is_key a x) ∙ by (x == a) refl (found kinds a xs)
   where
-    by : (t : Bool) → (x == a) ≡ t → cond t (Some (kinds x)) (find nat_cmp a (map (λ b. (b, kinds b)) xs)) ≡ cond (t || occurs a xs) (Some (kinds a)) None
-    by true e = ap (λ b. Some (kinds b)) (eqb-true x a e)
-    by false e = found kinds a xs
+    by : (t : Bool) → (x == a) ≡ t → find nat_cmp a (map (λ b. (b, kinds b)) xs) ≡ cond (occurs a xs) (Some (kinds a)) None → cond t (Some (kinds x)) (find nat_cmp a (map (λ b. (b, kinds b)) xs)) ≡ cond (t || occurs a xs) (Some (kinds a)) None
+    by true e rest = ap (λ b. Some (kinds b)) (eqb-true x a e)
+    by false e rest = rest
 
 pub listed_kind : (ases : List ℕ) (kinds : ℕ → Kind) (a : ℕ) → policy_at (listed_book ases kinds) a ≡ (if occurs a ases then kinds a else Plain)
 listed_kind ases kinds a = ap (λ (o : Option Kind). unwrap_or o Plain) (fin.get-from_entries nat_cmp_total (map (λ b. (b, kinds b)) ases) a ∙ found kinds a ases) ∙ by (occurs a ases)

@@ -29,18 +29,18 @@ use Rattle.sim_core.proofs.Standing.{stands}
 use Rattle.routing_tree.specs.Ends.{AreEnds}
 use Rattle.routing_tree.specs.Links.{AreLinksOf}
 use Rattle.routing_tree.specs.Placed.{AreSeedsAt, IsPlaced}
-use Rattle.routing_tree.specs.Trees.{IsGrown, IsTreeOf}
+use Rattle.routing_tree.specs.Trees.{HasPlaces, IsGrown, IsTreeOf, ParentsComeFirst}
 use Rattle.routing_tree.specs.declared.tree.Placed.{Placed}
 use Rattle.routing_tree.specs.declared.tree.PlacedSeed.{PlacedSeed}
 use Rattle.trial_world.specs.Fixed.{IsFixed, world_of}
-use Rattle.trial_world.specs.Trees.{AreKindsAt, AreLineTrees, AreRegrown, AreTreesFor, AreTreesIn, HoldsNoneBefore, IsOrdered, IsRegrown, IsTreeFor, NeedsNoPaths, SendByFirst, first_seeds}
+use Rattle.trial_world.specs.Trees.{AreEndsBy, AreKindsAt, AreRegrown, AreTreesFor, HoldsNoneBefore, IsRegrown, IsTreeFor, NeedsNoPaths, SendByFirst, first_seeds}
 use Rattle.trial_world.specs.declared.fixed.Fixed.{Fixed}
-use Rattle.trial_world.specs.declared.trees.LineTrees.{LineTrees}
 use Rattle.trial_world.specs.declared.trees.PrefixTree.{PrefixTree}
 use Rattle.trial_world.proofs.FirstSeeds.{seeds_alike}
 use Rattle.trial_world.proofs.KindsByPlace.{listed_book, listed_kind, none_marks}
 use Rattle.trial_world.proofs.PlainKinds.{hands_on, lawful_kind}
 use Rattle.trial_world.proofs.Routings.{stable_moved}
+use Rattle.trial_world.proofs.TreeSteps.{all_from}
 use Rattle.trial_world.proofs.TrialTrees.{none_held, send_by_first}
 
 abbrev Seeds : Type 0
@@ -125,11 +125,14 @@ module _ (f : Fixed) (is : IsFixed f) (book : PolicyBook Kind) (placed : Placed 
         subst (λ (p : PrefixValue). IsGrown f.graph.now (λ a. kind_policy (policy_at placed_book a)) (state_of f.states.payloads p) (first_seeds f.plan p) ases one.tree) (sym grown.prefix)
         (grown.grown f.graph.now (λ a. kind_policy (policy_at placed_book a)) (state_of f.states.payloads x.prefix) (first_seeds f.plan x.prefix) is_placed (for.each i x there).seeds.are)
 
-    pub ordered_at : (i : ℕ) (one : PrefixTree) → slice_get new i ≡ Some one → IsOrdered ases one
-    ordered_at i one at = (let grown = grown_at i one at in record { state = state_of f.states.payloads one.prefix; routing = grown.routing; tree = grown.tree; order = grown.order })
+    pub ordered_at : All (λ x. ParentsComeFirst x.tree (length ases)) new
+    ordered_at = all_from (λ (x : PrefixTree). ParentsComeFirst x.tree (length ases)) new (λ i one at. (grown_at i one at).order)
+
+    pub places_at : All (λ x. HasPlaces (length ases) x.tree) new
+    places_at = all_from (λ (x : PrefixTree). HasPlaces (length ases) x.tree) new (λ i one at. (still_for.each i one at).places)
 
     -- the routing of a prefix of the plan is that of its tree; of others nothing is held
-    routed : (p : PrefixValue) (t : Bool) → has_prefix f.plan p ≡ t → ℕ → Option Entry
+    pub routed : (p : PrefixValue) (t : Bool) → has_prefix f.plan p ≡ t → ℕ → Option Entry
     routed p true e = (let (i, one, at, named) = still_for.whole p e in (grown_at i one at).routing)
     routed p false e = λ a. None
 
@@ -168,15 +171,16 @@ module _ (f : Fixed) (is : IsFixed f) (book : PolicyBook Kind) (placed : Placed 
             (λ p away a. routed_none p (has_prefix f.plan p) refl away a) new still_for tree_is
 
         -- what is made anew is right
-        pub renewed : (t : LineTrees) → t.order.ases ≡ ases → t.prefixes.items ≡ new → AreLineTrees f t → AreEnds (next_hop (world_of f).plan routing f.addr) ases t.ends.ends.items
-            → ((k : ℕ) → k < length ases → slice_index t.ends.ends.items k ≡ 0 → HoldsNoneBefore new (length new) k) → AreTreesIn f book t
-        renewed t same_ases same_trees line ends none = record {
-          line = line;
+        pub renewed : (ends : List ℕ) → length ends ≡ length ases → ((next : ℕ → Hop) → SendByFirst next ases new → AreEnds next ases ends)
+            → ((k : ℕ) → k < length ases → slice_index ends k ≡ 0 → HoldsNoneBefore new (length new) k) → AreEndsBy f book ases new ends
+        renewed ends count_is are none = record {
+          trees_for = still_for;
+          count = count_is;
           routing = routing;
           stable = stable;
           none = λ p away a. routed_none p (has_prefix f.plan p) refl away a;
-          ends = subst (λ (xs : List ℕ). AreEnds (next_hop (world_of f).plan routing f.addr) xs t.ends.ends.items) (sym same_ases) ends;
-          unknown = λ k less lost p. ap (λ (xs : List ℕ). routing p (slice_index xs k)) same_ases ∙ unknown k (omega (arith, less, ap (λ (xs : List ℕ). length xs) same_ases)) (none k (omega (arith, less, ap (λ (xs : List ℕ). length xs) same_ases)) lost) p;
+          right = are (next_hop (world_of f).plan routing f.addr) all_send;
+          unknown = λ k less lost p. unknown k less (none k less lost) p;
         }
           where
             unknown : (k : ℕ) → k < length ases → HoldsNoneBefore new (length new) k → (p : PrefixValue) → routing p (slice_index ases k) ≡ None

@@ -23,7 +23,7 @@ same_prefix p q addr whole other held too same =
     let (q_of, q_bits) = and_parts (width q.family == width addr.family) (has_bits q addr.bits) too in
     let families : p.family ≡ q.family = family_is p.family addr.family p_of ∙ sym (family_is q.family addr.family q_of) in
     let past : ℕ = 2 ^ (width p.family - p.len) in
-    let pasts : 2 ^ (width q.family - q.len) ≡ past = λ i. 2 ^ (width (families (~ i)) - same (~ i)) in
+    let pasts : 2 ^ (width q.family - q.len) ≡ past = λ i. 2 ^ (width (sym families i) - sym same i) in
     let quotients : p.addr / past ≡ q.addr / past =
     eqb-true (p.addr / past) (addr.bits / past) p_bits ∙ sym (eqb-true (q.addr / past) (addr.bits / past) (sym (ap (λ d. q.addr / d == addr.bits / d) pasts) ∙ q_bits)) in
     let addrs : p.addr ≡ q.addr = sym (div-mul_whole p.addr past whole.clear) ∙ ap (λ x. x * past) quotients ∙ div-mul_whole q.addr past (sym (ap (λ d. q.addr % d) pasts) ∙ other.clear) in

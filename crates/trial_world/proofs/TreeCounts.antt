@@ -65,13 +65,16 @@ module _ (ases ends : List ℕ) (apart : IsDistinct nat_eq ases) (len : length e
     at_is : (e : ℕ) → (e ≢ 0 → e - 1 < length ases) → (o : Option ℕ) → place_of ases a ≡ o → is_end (end_by ases e) (the_end.At a) ≡ option_map_or (λ k. e == k + 1) o false
     at_is zero low None is = refl
     at_is zero low (Some k) is = sym (ne_eqb 0 (k + 1) (λ h. omega (arith, h)))
-    at_is (suc e) low o is = by o is
+    at_is (suc e) low o is = ap (λ b. is_end (if b then the_end.NoRoute else the_end.At (slice_index ases (suc e - 1))) (the_end.At a)) (ne_eqb (suc e) 0 (λ h. omega (arith, h))) ∙ by o is
       where
         less : e < length ases
         less = (let inside : suc e - 1 < length ases = low (λ h. omega (arith, h)) in omega (arith, inside))
 
+        back : suc e - 1 ≡ e
+        back = omega arith
+
         own : place_of ases (slice_index ases (suc e - 1)) ≡ Some e
-        own = own_place e less
+        own = ap (λ j. place_of ases (slice_index ases j)) back ∙ own_place e less
 
         by : (o : Option ℕ) → place_of ases a ≡ o → (slice_index ases (suc e - 1) == a) ≡ option_map_or (λ k. suc e == k + 1) o false
         by None is = false_from_ne_true (slice_index ases (suc e - 1) == a) (λ t. (let no : Some e ≡ None = sym own ∙ ap (place_of ases) (eqb-true (slice_index ases (suc e - 1)) a t) ∙ is in cc))
@@ -80,7 +83,7 @@ module _ (ases ends : List ℕ) (apart : IsDistinct nat_eq ases) (len : length e
             same : (t : Bool) → (suc e == k + 1) ≡ t → (slice_index ases (suc e - 1) == a) ≡ (suc e == k + 1)
             same true t =
                 let at : e ≡ k = omega (arith, eqb-true (suc e) (k + 1) t) in
-                eq-eqb (slice_index ases e) a (ap (slice_index ases) at ∙ get_or_from_slice_get ases k a 0 (at_place ases a k is)) ∙ sym t
+                ap (λ j. slice_index ases j == a) back ∙ eq-eqb (slice_index ases e) a (ap (slice_index ases) at ∙ get_or_from_slice_get ases k a 0 (at_place ases a k is)) ∙ sym t
             same false t =
                 false_from_ne_true (slice_index ases (suc e - 1) == a) (λ s. (
                 let one : Some e ≡ Some k = sym own ∙ ap (place_of ases) (eqb-true (slice_index ases (suc e - 1)) a s) ∙ is in

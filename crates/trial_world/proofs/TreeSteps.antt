@@ -1,7 +1,12 @@
 -- How the trees of a line are made, one seed and one prefix after the other.
-use Rattle.std.proofs.Common.{◌≡◌, ◌⊎◌, inl, inr, ℕ, ◌+◌, ◌<◌, ◌≤◌, Bool, true, false, is_some, Option, None, Some, List, [], ◌∷◌, ◌++◌, length, map, get_or, refl, sym, ap, subst, ◌∙◌, arith, true≢false}
+use Rattle.std.proofs.Common.{◌≡◌, ◌⊎◌, inl, inr, ℕ, zero, suc, ◌+◌, ◌-◌, ◌<◌, ◌≤◌, Bool, true, false, is_some, Option, None, Some, List, [], ◌∷◌, ◌++◌, length, map, get_or, refl, sym, ap, subst, ◌∙◌, arith, true≢false}
 use Rattle.std.specs.Prelude.{All, slice_get, slice_index}
 use Rattle.std.proofs.lemmas.Option.{get_or_from_slice_get, slice_get-get_or, slice_get_within}
+use Rattle.std.specs.List.Sorted.{IsNonDecreasingBy, IsPermutation}
+use Rattle.std.proofs.lemmas.List.Sorted.{Contains-permutation}
+use Rattle.net_names.specs.Addresses.{width}
+use Rattle.net_names.specs.declared.addresses.Family.{Family}
+use Rattle.net_names.specs.declared.addresses.Family.TheVariants.{V4, V6}
 use Rattle.net_names.specs.Numbers.{occurs}
 use Rattle.net_names.specs.Prefixes.{PrefixValue}
 use Rattle.as_graph.specs.Topology.{has}
@@ -9,16 +14,18 @@ use Rattle.as_places.specs.Places.{place_of}
 use Rattle.as_places.proofs.PlaceLemmas.{place_at}
 use Rattle.origin_validation.specs.Judging.{state_of}
 use Rattle.rank_order.specs.Ranks.{IsRankOrder, rank_at}
-use Rattle.stability_laws.specs.Plans.{IsAnnouncer, Plan, announced_path, announcers_of, announces, has_prefix}
+use Rattle.stability_laws.specs.Plans.{IsAnnouncer, Plan, announced_path, announcers_of, announces, has_prefix, prefixes_of}
 use Rattle.stability_laws.specs.declared.entry.Seed.{Seed}
 use Rattle.stability_laws.proofs.Listing.{at_next}
 use Rattle.stability_laws.proofs.PlanListings.{announcers_listed}
 use Rattle.routing_tree.specs.Placed.{AreSeedsAt, own_seed}
 use Rattle.routing_tree.specs.declared.tree.PlacedSeed.{PlacedSeed}
 use Rattle.trial_world.specs.Fixed.{IsFixed}
-use Rattle.trial_world.specs.Trees.{AnnounceThemselves, AreSeedsFor, NeedsNoPaths, first_seeds}
+use Rattle.trial_world.specs.Trees.{AnnounceThemselves, AreSeedsFor, AreTreesFor, IsTreeFor, NeedsNoPaths, first_seeds}
 use Rattle.trial_world.specs.declared.fixed.Fixed.{Fixed}
+use Rattle.trial_world.specs.declared.trees.PrefixTree.{PrefixTree}
 use Rattle.trial_world.proofs.FirstSeeds.{seed_announces, seed_away, seed_there}
+use Rattle.trial_world.proofs.PartPlans.{listed}
 use Rattle.trial_world.proofs.TreeLists.{pushed, pushed_new, pushed_old}
 use Rattle.trial_world.proofs.TrialTables.{announcer_in}
 
@@ -60,10 +67,10 @@ module _ (f : Fixed) (p : PrefixValue) (ases : List ℕ) where
       each = λ j x there. elim (pushed seeds s j x there) [
         | inl old ↦ are.each j x old
         | inr new ↦ subst (IsSeedFor f ases p) new.1 (record {
-              inside = inside;
-              announced = ap (announces f.plan p) here ∙ announced;
-              state = state ∙ ap (state_of f.states.payloads p) (sym here);
-            })
+          inside = inside;
+          announced = ap (announces f.plan p) here ∙ announced;
+          state = state ∙ ap (state_of f.states.payloads p) (sym here);
+        })
       ];
       whole = at_next names n a (λ b. announces f.plan p b ≡ true → (j : ℕ) × (x : PlacedSeed) × (slice_get (seeds ++ s ∷ []) j ≡ Some x) × (slice_index ases x.place ≡ b)) at
           (λ t. (length seeds, s, pushed_new seeds s, here))
@@ -105,3 +112,54 @@ module _ (f : Fixed) (p : PrefixValue) (ases : List ℕ) where
       none : (a : ℕ) → has f.graph.now a ≡ false → (t : Bool) → announces f.plan p a ≡ t → first_seeds f.plan p a ≡ None
       none a away true e = absurd (true≢false (sym (announcer_in f is p a e) ∙ away))
       none a away false e = seed_away f.plan p a e
+
+-- ---- the prefixes, one after the other
+
+-- an item of a list of images is that of an item of the list
+pub image_at : {X Y : Type 0} (g : X → Y) (xs : List X) (i : ℕ) (y : Y) → slice_get (map g xs) i ≡ Some y → (x : X) × (slice_get xs i ≡ Some x) × (g x ≡ y)
+image_at g [] i y at = absurd (let no : None ≡ Some y = at in cc)
+image_at g (x ∷ xs) zero y at = (x, refl, (let same : Some (g x) ≡ Some y = at in cc))
+image_at g (x ∷ xs) (suc i) y at = image_at g xs i y at
+
+pub image_of : {X Y : Type 0} (g : X → Y) (xs : List X) (i : ℕ) (x : X) → slice_get xs i ≡ Some x → slice_get (map g xs) i ≡ Some (g x)
+image_of g [] i x at = absurd (let no : None ≡ Some x = at in cc)
+image_of g (y ∷ xs) zero x at = (let same : Some y ≡ Some x = at in let is : y ≡ x = cc in ap (λ z. Some (g z)) is)
+image_of g (y ∷ xs) (suc i) x at = image_of g xs i x at
+
+pub image_push : {X Y : Type 0} (g : X → Y) (xs : List X) (x : X) → map g (xs ++ x ∷ []) ≡ map g xs ++ g x ∷ []
+image_push g [] x = refl
+image_push g (y ∷ xs) x = ap (λ zs. g y ∷ zs) (image_push g xs x)
+
+width_fits : (family : Family) → width family ≤ 128
+width_fits V4 = omega arith
+width_fits V6 = omega arith
+
+-- a tree more
+pub tree_more : (f : Fixed) (ases : List ℕ) (trees : List PrefixTree) (one : PrefixTree) → ((i : ℕ) (x : PrefixTree) → slice_get trees i ≡ Some x → IsTreeFor f ases x) → IsTreeFor f ases one → (i : ℕ) (x : PrefixTree) → slice_get (trees ++ one ∷ []) i ≡ Some x → IsTreeFor f ases x
+tree_more f ases trees one each this i x at = elim (pushed trees one i x at) [
+  | inl old ↦ each i x old
+  | inr new ↦ subst (IsTreeFor f ases) new.1 this
+]
+
+-- where all prefixes are through, the trees are those of the plan
+pub trees_done : (f : Fixed) (ases : List ℕ) (sorted : List PrefixValue) (trees : List PrefixTree) → IsPermutation (prefixes_of f.plan) sorted → IsNonDecreasingBy (λ p. 255 - p.len) sorted
+    → ((i : ℕ) (one : PrefixTree) → slice_get trees i ≡ Some one → IsTreeFor f ases one) → map (λ t. t.prefix) trees ≡ sorted → AreTreesFor f ases trees
+trees_done f ases sorted trees same falls each are = record {
+  each = each;
+  whole = λ p known.
+      let (place, there) = listed f.plan p known in
+      let (k, less, at) = Contains-permutation (prefixes_of f.plan) sorted p same (place, slice_get_within (prefixes_of f.plan) place p there, get_or_from_slice_get (prefixes_of f.plan) place p p there) in
+      let stands : slice_get (map (λ (t : PrefixTree). t.prefix) trees) k ≡ Some p = ap (λ xs. slice_get xs k) are ∙ slice_get-get_or sorted k p less ∙ ap Some at in
+      let (one, one_at, named) = image_at (λ (t : PrefixTree). t.prefix) trees k p stands in
+      (k, one, one_at, named);
+  falling = λ i j x y low at there.
+      let x_at : slice_get sorted i ≡ Some x.prefix = ap (λ xs. slice_get xs i) (sym are) ∙ image_of (λ (t : PrefixTree). t.prefix) trees i x at in
+      let y_at : slice_get sorted j ≡ Some y.prefix = ap (λ xs. slice_get xs j) (sym are) ∙ image_of (λ (t : PrefixTree). t.prefix) trees j y there in
+      let within : j < length sorted = slice_get_within sorted j y.prefix y_at in
+      let order : 255 - (get_or sorted i x.prefix).len ≤ 255 - (get_or sorted j x.prefix).len = falls i j x.prefix (omega (arith, low)) within in
+      let x_is : (get_or sorted i x.prefix).len ≡ x.prefix.len = ap (λ (p : PrefixValue). p.len) (get_or_from_slice_get sorted i x.prefix x.prefix x_at) in
+      let y_is : (get_or sorted j x.prefix).len ≡ y.prefix.len = ap (λ (p : PrefixValue). p.len) (get_or_from_slice_get sorted j y.prefix x.prefix y_at) in
+      let y_short : y.prefix.len ≤ width y.prefix.family = (each j y there).sound.short in
+      let y_fits : width y.prefix.family ≤ 128 = width_fits y.prefix.family in
+      omega (arith, order, x_is, y_is, y_short, y_fits);
+}

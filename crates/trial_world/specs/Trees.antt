@@ -23,7 +23,7 @@ use Rattle.data_trace.specs.declared.kinds.Hop.{Hop}
 use Rattle.routing_tree.specs.Ends.{AreEnds, hop_by}
 use Rattle.routing_tree.specs.Links.{AreLinksOf, HasLists}
 use Rattle.routing_tree.specs.Placed.{AreSeedsAt, IsPlaced}
-use Rattle.routing_tree.specs.Trees.{HasPlaces, IsGrown, IsTreeOf, ParentsComeFirst}
+use Rattle.routing_tree.specs.Trees.{HasPlaces, IsGrown}
 use Rattle.routing_tree.specs.declared.tree.Placed.{Placed}
 use Rattle.routing_tree.specs.declared.tree.PlacedSeed.{PlacedSeed}
 use Rattle.sweep.specs.declared.trial.Fate.{Fate}
@@ -62,15 +62,6 @@ pub record IsTreeFor (f : Fixed) (ases : List ℕ) (one : PrefixTree) : Type 0 w
   pub seeds : AreSeedsFor f ases one.prefix one.seeds.items
   pub places : HasPlaces (length ases) one.tree
 
--- of two places of a list of prefixes the later one has no longer prefix
-abbrev pub AreLongestFirst : List PrefixValue → Type 0
-AreLongestFirst ps = (i j : ℕ) (p q : PrefixValue) → i < j → slice_get ps i ≡ Some p → slice_get ps j ≡ Some q → q.len ≤ p.len
-
--- each prefix of the plan stands in the list, and no other
-pub record HasPrefixes (plan : Plan) (ps : List PrefixValue) : Type 0 where
-  pub only : (i : ℕ) (p : PrefixValue) → slice_get ps i ≡ Some p → has_prefix plan p ≡ true
-  pub whole : (p : PrefixValue) → has_prefix plan p ≡ true → (i : ℕ) × (slice_get ps i ≡ Some p)
-
 -- the list has a tree for each prefix of the plan and no other, that of the longest prefix first
 pub record AreTreesFor (f : Fixed) (ases : List ℕ) (trees : List PrefixTree) : Type 0 where
   pub each : (i : ℕ) (one : PrefixTree) → slice_get trees i ≡ Some one → IsTreeFor f ases one
@@ -105,6 +96,16 @@ count_by_ends t f = elim f [
   | fate.Loop ↦ 0
 ]
 
+-- the trees and the ends at these places are those where the ASes have the policies of the book
+pub record AreEndsBy (f : Fixed) (book : PolicyBook Kind) (ases : List ℕ) (trees : List PrefixTree) (ends : List ℕ) : Type 0 where
+  pub trees_for : AreTreesFor f ases trees
+  pub count : length ends ≡ length ases
+  pub routing : PrefixValue → ℕ → Option Entry
+  pub stable : (p : PrefixValue) → has_prefix f.plan p ≡ true → IsStable (setting kind_policy f.graph.now book (state_of f.states.payloads p)) (first_seeds f.plan p) (routing p)
+  pub none : (p : PrefixValue) → has_prefix f.plan p ≡ false → (a : ℕ) → routing p a ≡ None
+  pub right : AreEnds (next_hop (world_of f).plan routing f.addr) ases ends
+  pub unknown : (k : ℕ) → k < length ases → slice_index ends k ≡ 0 → (p : PrefixValue) → routing p (slice_index ases k) ≡ None
+
 -- the kind at each place is that of the AS there, and does not mark
 abbrev pub AreKindsAt : List ℕ → PolicyBook Kind → List Kind → Type 0
 AreKindsAt ases book kinds = (k : ℕ) (x : Kind) → k < length ases → slice_get kinds k ≡ Some x → (x ≡ policy_at book (slice_index ases k)) × ((kind_policy x).marks ≡ false)
@@ -120,13 +121,6 @@ pub record IsRegrown (placed : Placed Kind) (old new : PrefixTree) : Type 0 wher
 -- so is each tree of a list
 abbrev pub AreRegrown : Placed Kind → List PrefixTree → List PrefixTree → Type 0
 AreRegrown placed old new = (i : ℕ) (x y : PrefixTree) → slice_get old i ≡ Some x → slice_get new i ≡ Some y → IsRegrown placed x y
-
--- each tree is that of some routing over these ASes, in which a parent comes before its children
-pub record IsOrdered (ases : List ℕ) (one : PrefixTree) : Type 0 where
-  pub state : ℕ → State
-  pub routing : ℕ → Option Entry
-  pub tree : IsTreeOf state ases one.tree routing
-  pub order : ParentsComeFirst one.tree (length ases)
 
 -- nothing is held at the place in the first trees of a list
 abbrev pub HoldsNoneBefore : List PrefixTree → ℕ → ℕ → Type 0

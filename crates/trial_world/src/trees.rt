@@ -1,5 +1,5 @@
 //! Routing trees in place of tables: where a line needs no paths.
-ghost use Rattle.std.specs.Prelude.{◌≡◌, ◌<◌, ◌≤◌, ℕ, true, false, Some, List, [], ◌∷◌, All, IfOk, IfSome, length, slice_get, slice_index};
+ghost use Rattle.std.specs.Prelude.{◌≡◌, ◌<◌, ◌≤◌, ◌-◌, ℕ, true, false, Some, List, [], ◌∷◌, All, IfOk, IfSome, length, nat_eq, slice_get, slice_index};
 ghost use Rattle.as_graph.specs.Prelude.{has, relation};
 ghost use Rattle.as_graph.specs.declared.build.TheConstants.{MOST_ASES};
 ghost use Rattle.data_trace.specs.declared.kinds.Hop.{Hop};
@@ -11,14 +11,15 @@ ghost use Rattle.policy_kinds.specs.declared.kind.Kind.{Kind as AKind};
 ghost use Rattle.rank_order.specs.Prelude.{rank_at};
 ghost use Rattle.rank_order.specs.Ranks.{IsRankOrder};
 ghost use Rattle.routing_tree.specs.Ends.{AreEnds};
-ghost use Rattle.routing_tree.specs.Links.{HasLists};
+ghost use Rattle.routing_tree.specs.Links.{AreLinksOf, HasLists};
 ghost use Rattle.routing_tree.specs.Trees.{HasPlaces, ParentsComeFirst};
 ghost use Rattle.stability_laws.specs.Book.{PolicyBook};
 ghost use Rattle.stability_laws.specs.Plans.{announced_path, has_prefix, prefixes_of};
-ghost use Rattle.std.specs.List.Sorted.{IsPermutation};
+ghost use Rattle.std.specs.List.{IsDistinct};
+ghost use Rattle.std.specs.List.Sorted.{IsNonDecreasingBy, IsPermutation};
 ghost use Rattle.sweep.specs.declared.trial.Fate.TheVariants as fate;
 ghost use Rattle.trial_world.specs.Fixed.{IsFixed};
-ghost use Rattle.trial_world.specs.Trees.{AnnounceThemselves, AreKindsAt, AreLineTrees, AreLongestFirst, AreRegrown, AreSeedsFor, AreTreesFor, AreTreesIn, HasPrefixes, HoldsNoneBefore, IsOrdered, IsRegrown, IsTreeFor, LeaksNothing, NeedsNoPaths, SendByFirst, count_by_ends};
+ghost use Rattle.trial_world.specs.Trees.{AnnounceThemselves, AreEndsBy, AreKindsAt, AreLineTrees, AreRegrown, AreSeedsFor, AreTreesFor, AreTreesIn, HoldsNoneBefore, IsRegrown, IsTreeFor, LeaksNothing, NeedsNoPaths, SendByFirst, count_by_ends};
 
 use crate::fixed::Fixed;
 use as_places::AsPlaces;
@@ -161,7 +162,7 @@ fn blank_tree(fixed: &Fixed<'_>, order: &AsPlaces, prefix: Prefix) -> Result<Pre
 // The prefixes, the longest first.
 fn longest_first(alloc: Global, prefixes: &[Prefix]) -> Result<Vec<Prefix>, NoMemory>
     ensures same { IfOk result (λ v. IsPermutation prefixes.now v.items) }
-    ensures falling { IfOk result (λ v. AreLongestFirst v.items) }
+    ensures falling { IfOk result (λ v. IsNonDecreasingBy (λ p. 255 - p.len) v.items) }
 {
     let mut sorted = Vec::from_slice(alloc, prefixes)?;
     sorted.sort_by_key(|prefix| 255 - prefix.len())?;
@@ -202,6 +203,7 @@ fn take_kinds(ases: &[Asn], book: &Book<Kind>, kinds: &mut [Kind]) -> bool
 // The tree of a prefix with these policies.
 fn grow_one(one: &mut PrefixTree, placed: &Placed<'_, Kind>)
     requires few { length placed.now.ases.now ≤ MOST_ASES }
+    requires apart { IsDistinct nat_eq placed.now.ases.now }
     requires policies { length placed.now.policies.now ≡ length placed.now.ases.now }
     requires lists { HasLists (length placed.now.ases.now) placed.now.links.now }
     requires places { HasPlaces (length placed.now.ases.now) one.old.tree }
@@ -214,6 +216,7 @@ fn grow_one(one: &mut PrefixTree, placed: &Placed<'_, Kind>)
 // The trees of the prefixes with these policies.
 fn grow_all(prefixes: &mut [PrefixTree], placed: &Placed<'_, Kind>)
     requires few { length placed.now.ases.now ≤ MOST_ASES }
+    requires apart { IsDistinct nat_eq placed.now.ases.now }
     requires policies { length placed.now.policies.now ≡ length placed.now.ases.now }
     requires lists { HasLists (length placed.now.ases.now) placed.now.links.now }
     requires places { All (λ x. HasPlaces (length placed.now.ases.now) x.tree) prefixes.old }
@@ -227,18 +230,47 @@ fn grow_all(prefixes: &mut [PrefixTree], placed: &Placed<'_, Kind>)
 
 // At whom packets end by these trees.
 fn follow_all(ends: &mut Ends, prefixes: &[PrefixTree])
+    requires few { length ends.old.ends.items ≤ MOST_ASES }
     requires places { All (λ x. HasPlaces (length ends.old.ends.items) x.tree) prefixes.now }
     requires order { All (λ x. ParentsComeFirst x.tree (length ends.old.ends.items)) prefixes.now }
     ensures count { length ends.new.ends.items ≡ length ends.old.ends.items }
     ensures none { (k : ℕ) → k < length ends.old.ends.items → slice_index ends.new.ends.items k ≡ 0 →
         HoldsNoneBefore prefixes.now (length prefixes.now) k }
-    ensures ends { (next : ℕ → Hop) (ases : List ℕ) → length ases ≡ length ends.old.ends.items → All (IsOrdered ases) prefixes.now →
+    ensures ends { (next : ℕ → Hop) (ases : List ℕ) → length ases ≡ length ends.old.ends.items →
         SendByFirst next ases prefixes.now → AreEnds next ases ends.new.ends.items }
 {
     ends.clear();
     for one in prefixes {
         ends.follow(&one.tree);
     }
+}
+
+// The trees and the ends with these policies, which are those of the book and do not mark.
+fn renew_all(
+    fixed: &Fixed<'_>,
+    book: &Book<Kind>,
+    placed: &Placed<'_, Kind>,
+    prefixes: &mut [PrefixTree],
+    ends: &mut Ends,
+)
+    requires fixed { IsFixed fixed.now }
+    requires no_paths { NeedsNoPaths fixed.now.plan fixed.now.round }
+    requires few { length placed.now.ases.now ≤ MOST_ASES }
+    requires policies { length placed.now.policies.now ≡ length placed.now.ases.now }
+    requires order { IsRankOrder (has fixed.now.graph.now) (rank_at fixed.now.ranks.now) placed.now.ases.now }
+    requires links { AreLinksOf (relation fixed.now.graph.now) placed.now.ases.now placed.now.links.now }
+    requires lists { HasLists (length placed.now.ases.now) placed.now.links.now }
+    requires kinds { AreKindsAt placed.now.ases.now book.now placed.now.policies.now }
+    requires trees { AreTreesFor fixed.now placed.now.ases.now prefixes.old }
+    requires ends { length ends.old.ends.items ≡ length placed.now.ases.now }
+    ensures { AreEndsBy fixed.now book.now placed.now.ases.now prefixes.new ends.new.ends.items }
+{
+    right_follows::<Kind>();
+    one_stable_routing::<Kind>();
+    paths_go_on::<Kind>();
+    plans_are_sound(&fixed.plan);
+    grow_all(prefixes, placed);
+    follow_all(ends, prefixes);
 }
 
 impl LineTrees {
@@ -248,18 +280,21 @@ impl LineTrees {
         requires no_paths { NeedsNoPaths fixed.now.plan fixed.now.round }
         ensures { IfOk result (AreLineTrees fixed.now) }
     {
-        let alloc = fixed.alloc;
+        // `as_count` is called for its clause that a graph has few ASes.
+        let (alloc, _count) = (fixed.alloc, fixed.graph.as_count());
         let by_rank = placed_by_rank(alloc, fixed.graph, fixed.ranks)?;
         let links = PlacedLinks::of(alloc, fixed.graph, &by_rank)?;
         let order = AsPlaces::of(alloc, by_rank.ases.as_slice())?;
         let count = order.len();
         let prefixes = blank_trees(fixed, &order)?;
+        let kinds = Vec::from_elem(alloc, Kind::Plain, count)?;
+        let ends = Ends::none(alloc, count)?;
         Ok(LineTrees {
             order,
             links,
-            kinds: Vec::from_elem(alloc, Kind::Plain, count)?,
+            kinds,
             prefixes,
-            ends: Ends::none(alloc, count)?,
+            ends,
         })
     }
 
@@ -272,10 +307,6 @@ impl LineTrees {
         ensures stay { result ≡ false → (old : PolicyBook AKind) →
             AreTreesIn fixed.now old self.old → AreTreesIn fixed.now old self.new }
     {
-        right_follows::<Kind>();
-        one_stable_routing::<Kind>();
-        paths_go_on::<Kind>();
-        plans_are_sound(fixed.base.plan());
         let ases = self.order.as_slice();
         if !take_kinds(ases, book, self.kinds.as_mut_slice()) {
             return false;
@@ -285,8 +316,8 @@ impl LineTrees {
             links: &self.links,
             policies: self.kinds.as_slice(),
         };
-        grow_all(self.prefixes.as_mut_slice(), &placed);
-        follow_all(&mut self.ends, self.prefixes.as_slice());
+        let prefixes = self.prefixes.as_mut_slice();
+        renew_all(fixed, book, &placed, prefixes, &mut self.ends);
         true
     }
 
