@@ -12,3 +12,4 @@ mod TrialTables
 mod TouchedAround
 pub mod Following
 mod Lines
+mod Begun
