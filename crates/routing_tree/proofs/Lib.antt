@@ -1,1 +1,3 @@
-
+pub mod Following
+pub mod PlacesAround
+pub mod Regions

@@ -1,8 +1,9 @@
 -- Links by the places of their ends.
-use Rattle.std.specs.Prelude.{◌≡◌, ◌<◌, ◌+◌, ◌-◌, ℕ, true, Option, Some, List, All, length, take, drop, slice_index}
+use Rattle.std.specs.Prelude.{◌≡◌, ◌<◌, ◌+◌, ◌-◌, ◌++◌, ◌∷◌, [], ℕ, true, Option, Some, List, All, length, take, drop, slice_index}
 use Rattle.net_names.specs.Numbers.{occurs}
 use Rattle.net_names.specs.declared.routes.Rel.{Rel}
 use Rattle.net_names.specs.declared.routes.Rel.TheVariants.{Customer, Peer, Provider}
+use Rattle.routing_tree.specs.declared.around.Around.{Around}
 use Rattle.routing_tree.specs.declared.links.PlaceLists.{PlaceLists}
 use Rattle.routing_tree.specs.declared.links.PlacedLinks.{PlacedLinks}
 
@@ -36,3 +37,28 @@ pub record HasLists (n : ℕ) (l : PlacedLinks) : Type 0 where
   pub customers : All (λ j. j < n) l.customers.items.items
   pub peers : All (λ j. j < n) l.peers.items.items
   pub providers : All (λ j. j < n) l.providers.items.items
+
+-- the places of those neighbours that are this to the AS
+abbrev pub places_of : Around → Rel → List ℕ
+places_of around Customer = around.customers.items
+places_of around Peer = around.peers.items
+places_of around Provider = around.providers.items
+
+-- a place stands behind those of its kind, and the others stay
+abbrev pub IsPut : Rel → ℕ → Around → Around → Type 0
+IsPut Customer place old new = (new.customers.items ≡ old.customers.items ++ place ∷ []) × (new.peers.items ≡ old.peers.items) × (new.providers.items ≡ old.providers.items)
+IsPut Peer place old new = (new.customers.items ≡ old.customers.items) × (new.peers.items ≡ old.peers.items ++ place ∷ []) × (new.providers.items ≡ old.providers.items)
+IsPut Provider place old new = (new.customers.items ≡ old.customers.items) × (new.peers.items ≡ old.peers.items) × (new.providers.items ≡ old.providers.items ++ place ∷ [])
+
+-- one more list stands behind the others, which stay
+pub record HasOneMore (old new : PlaceLists) (list : List ℕ) : Type 0 where
+  pub count : count_of new ≡ count_of old + 1
+  pub others : (k : ℕ) → k < count_of old → list_at new k ≡ list_at old k
+  pub this : list_at new (count_of old) ≡ list
+  pub items : new.items.items ≡ old.items.items ++ list
+
+-- of so many ASes of the list, the first ones, the lists have the places of those neighbours that are this to the AS
+pub record AreListsOf (relation : ℕ → ℕ → Option Rel) (ases : List ℕ) (r : Rel) (n : ℕ) (l : PlaceLists) : Type 0 where
+  pub count : count_of l ≡ n
+  pub each : (k : ℕ) → k < n → ArePlacesOf relation ases (slice_index ases k) r (list_at l k)
+  pub inside : All (λ j. j < length ases) l.items.items

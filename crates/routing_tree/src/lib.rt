@@ -7,6 +7,7 @@
 //! number, and growing a tree takes no memory.
 #![tactic(auto)]
 
+mod around;
 mod choosing;
 mod ends;
 mod growing;
