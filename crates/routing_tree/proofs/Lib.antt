@@ -1,3 +1,4 @@
 pub mod Following
 pub mod PlacesAround
 pub mod Regions
+pub mod Choices

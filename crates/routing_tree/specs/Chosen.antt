@@ -1,5 +1,5 @@
 -- Which offer an AS at a place chooses by a tree.
-use Rattle.std.specs.Prelude.{◌≡◌, ◌≢◌, ◌⊎◌, ◌<◌, ◌+◌, ◌==◌, if◌then◌else◌, ℕ, IsTrue, true, false, Option, Some, None, List, length, slice_get, slice_index, unwrap_or}
+use Rattle.std.specs.Prelude.{◌≡◌, ◌≢◌, ◌⊎◌, ◌<◌, ◌≤◌, ◌+◌, ◌==◌, ◌&&◌, if◌then◌else◌, ℕ, IsTrue, true, false, Option, Some, None, List, length, slice_get, slice_index, unwrap_or}
 use Rattle.net_names.specs.Numbers.{occurs}
 use Rattle.net_names.specs.declared.routes.Rel.{Rel}
 use Rattle.net_names.specs.declared.routes.Rel.TheVariants.{Customer, Peer, Provider}
@@ -9,6 +9,7 @@ use Rattle.policy_laws.specs.Plain.{IsOf}
 use Rattle.policy_laws.specs.Policy.{Policy}
 use Rattle.policy_laws.specs.declared.policy.View.{View}
 use Rattle.routing_tree.specs.declared.choosing.Best.{Best}
+use Rattle.routing_tree.specs.declared.choosing.Shortest.{Shortest}
 use Rattle.routing_tree.specs.declared.links.PlacedLinks.{PlacedLinks}
 use Rattle.routing_tree.specs.declared.tree.RoutingTree.{RoutingTree}
 use Rattle.routing_tree.specs.Links.{list_at}
@@ -47,6 +48,32 @@ IsChosen p ases t Looks (Some b) = IsFirst p ases t Looks b
 abbrev pub AreStatesOf : Option State → RoutingTree → Type 0
 AreStatesOf all t = (j : ℕ) → 0 < slice_index t.lengths.items j → IsOf all (state_at t j)
 
+-- the offer that the AS at a place makes, which is this to the one that chooses
+abbrev pub best_from : List ℕ → RoutingTree → Rel → ℕ → Best
+best_from ases t r j = record { view = record { rel = r; neighbour = slice_index ases j; length = slice_index t.lengths.items j + 1; state = state_at t j; otc = None }; place = j }
+
 -- the best one that comes from a provider at a place
 abbrev pub best_at : List ℕ → RoutingTree → ℕ → Best
-best_at ases t j = record { view = record { rel = Provider; neighbour = slice_index ases j; length = slice_index t.lengths.items j + 1; state = state_at t j; otc = None }; place = j }
+best_at ases t j = best_from ases t Provider j
+
+-- the better one of the best so far, if there is one, and of another one that the policy may accept (RFC 4271, section 9.1.2)
+abbrev pub better_of : Policy → Option Best → Best → Option Best
+better_of p None new = if p.accepts new.view then Some new else None
+better_of p (Some old) new = if p.accepts new.view && p.before new.view old.view then Some new else Some old
+
+-- the better one of the best so far and of the offer of the AS at a place, which is this to the one that chooses, if it holds something
+abbrev pub weighed : Policy → List ℕ → RoutingTree → Option Best → Rel → ℕ → Option Best
+weighed p ases t best r j = if slice_index t.lengths.items j == 0 then best else better_of p best (best_from ases t r j)
+
+-- the path of the AS at a place comes before another one, by its length and then by the number of the AS (RFC 4271, section 9.1.2.2)
+abbrev pub ComesFirst : List ℕ → RoutingTree → ℕ → Shortest → Type 0
+ComesFirst ases t j s = (slice_index t.lengths.items j < s.length) ⊎ ((slice_index t.lengths.items j ≡ s.length) × (slice_index ases j < slice_index ases s.place))
+
+-- the path of the AS at a place comes behind another one, or is that one
+abbrev pub ComesLater : List ℕ → RoutingTree → ℕ → Shortest → Type 0
+ComesLater ases t j s = (s.length < slice_index t.lengths.items j) ⊎ ((s.length ≡ slice_index t.lengths.items j) × (slice_index ases s.place ≤ slice_index ases j))
+
+-- of the shortest path so far and that of the AS at a place this is the one that comes first
+abbrev pub IsShorterOf : List ℕ → RoutingTree → ℕ → Shortest → Shortest → Type 0
+IsShorterOf ases t j old new = ((new ≡ (record { length = slice_index t.lengths.items j; place = j })) × (0 < slice_index t.lengths.items j) × ComesFirst ases t j old)
+    ⊎ ((new ≡ old) × ((slice_index t.lengths.items j ≡ 0) ⊎ ComesLater ases t j old))
