@@ -3,5 +3,7 @@ pub mod Links
 pub mod Placed
 pub mod Trees
 pub mod Chosen
+pub mod Puts
+pub mod Cases
 pub mod Ends
 pub mod Prelude
