@@ -1,0 +1,14 @@
+pub mod Following
+pub mod PlacesAround
+pub mod Regions
+pub mod Choices
+pub mod Puts
+pub mod Parents
+pub mod Places
+pub mod Offered
+pub mod Taken
+pub mod Cases
+pub mod Givers
+pub mod GoingUp
+pub mod GoingDown
+pub mod Grown

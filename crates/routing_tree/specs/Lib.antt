@@ -1,0 +1,9 @@
+pub mod Starts
+pub mod Links
+pub mod Placed
+pub mod Trees
+pub mod Chosen
+pub mod Puts
+pub mod Cases
+pub mod Ends
+pub mod Prelude
