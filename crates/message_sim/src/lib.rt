@@ -13,6 +13,7 @@ mod laws;
 mod line;
 mod net;
 mod news;
+mod queue;
 mod reading;
 mod route;
 mod starting;

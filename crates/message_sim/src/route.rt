@@ -6,11 +6,12 @@ use net_names::{Asn, Class, MOST_IN_PATH, NoMemory, Path};
 use stability_laws::{Entry, Seed, same_class, same_number, same_path};
 use std::alloc::Global;
 use std::marker::Model;
+use std::rc::Rc;
 
-/// An entry whose path has at most 4294967294 numbers.
+/// An entry whose path has at most 4294967294 numbers. Its copies share it, so that none takes memory.
 #[derive(Drop)]
 pub struct Route {
-    entry: Entry,
+    entry: Rc<Entry>,
 }
 
 impl Model for Route {
@@ -22,9 +23,9 @@ impl Model for Route {
 
     ghost coded = { entry_contract.the_row.coded };
 
-    ghost view = { λ h. h.entry };
+    ghost view = { λ h. h.entry.value };
 
-    ghost invariant = { λ h. length h.entry.path < 2 ^ 32 - 1 };
+    ghost invariant = { λ h. length h.entry.value.path < 2 ^ 32 - 1 };
 }
 
 impl Route {
@@ -33,14 +34,14 @@ impl Route {
         ensures value { result.now ≡ self.now }
         ensures short { length self.now.path < 2 ^ 32 - 1 }
     {
-        &self.entry
+        self.entry.as_ref()
     }
 
-    /// A copy of it.
-    pub(crate) fn copy(&self, alloc: Global) -> Result<Route, NoMemory>
+    /// The same entry once more.
+    pub(crate) fn copy(&self) -> Result<Route, NoMemory>
         ensures { IfOk result (λ h. h ≡ self.now) }
     {
-        let entry = self.entry.copied(alloc)?;
+        let entry = self.entry.clone()?;
         Ok(Route { entry })
     }
 
@@ -50,12 +51,13 @@ impl Route {
         ensures { IfOk result (λ h. h ≡ seed_entry seed.now) }
     {
         let path = seed.path.copied(alloc)?;
+        let entry = Entry {
+            class: Class::Origin,
+            path,
+            otc: seed.otc,
+        };
         Ok(Route {
-            entry: Entry {
-                class: Class::Origin,
-                path,
-                otc: seed.otc,
-            },
+            entry: Rc::new(alloc, entry)?,
         })
     }
 
@@ -74,8 +76,9 @@ impl Route {
             return Err(NoMemory);
         }
         let path = Path::with_front(alloc, first, rest)?;
+        let entry = Entry { class, path, otc };
         Ok(Route {
-            entry: Entry { class, path, otc },
+            entry: Rc::new(alloc, entry)?,
         })
     }
 }

@@ -1,6 +1,6 @@
 -- What an AS chooses, one place after the other.
-use Rattle.std.proofs.Common.{◌≡◌, ◌≢◌, ◌⊎◌, ℕ, ◌+◌, ◌-◌, ◌<◌, ◌≤◌, Bool, true, false, ◌||◌, ◌&&◌, ◌==◌, cond, IsTrue, inl, inr, Option, Some, None, option_map, List, [], ◌∷◌, All, Ordering, Less, Equal, Greater, length, take, drop, slice_get, slice_index, slice_index_or, nat_eq, take_all, arith, refl, sym, ◌∙◌, ap, subst}
-use Rattle.std.specs.List.{IsDistinct, list_any}
+use Rattle.std.proofs.Common.{◌≡◌, ◌≢◌, ◌⊎◌, ℕ, ◌+◌, ◌-◌, ◌<◌, ◌≤◌, Bool, true, false, ◌&&◌, ◌==◌, cond, inl, inr, Option, Some, None, List, [], ◌∷◌, All, Ordering, Less, Equal, Greater, length, take, drop, slice_get, slice_index, slice_index_or, nat_eq, take_all, arith, refl, sym, ◌∙◌, ap, subst}
+use Rattle.std.specs.List.{IsDistinct}
 use Rattle.std.specs.Ordering.{nat_cmp, is_lt, ordering_then, MatchOrdering}
 use Rattle.std.specs.Cmp.{ranks}
 use Rattle.std.specs.Cmp.Lexicographic.{slice_cmp}
@@ -13,7 +13,7 @@ use Rattle.net_names.specs.Numbers.{occurs}
 use Rattle.net_names.specs.declared.routes.Rel.{Rel}
 use Rattle.net_names.specs.declared.routes.Rel.TheVariants.{Customer, Peer, Provider}
 use Rattle.net_names.specs.declared.routes.State.{State}
-use Rattle.policy_laws.specs.Plain.{IsOf, TakesPlainly, provider_key}
+use Rattle.policy_laws.specs.Plain.{IsOf, TakesPlainly}
 use Rattle.policy_laws.specs.Policy.{Policy, RanksOffers}
 use Rattle.policy_laws.specs.declared.policy.View.{View}
 use Rattle.routing_tree.specs.declared.choosing.Best.{Best}

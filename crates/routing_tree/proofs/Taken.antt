@@ -1,5 +1,5 @@
 -- What is seen, chosen and taken, whatever the tree is of.
-use Rattle.std.proofs.Common.{◌≡◌, ◌<◌, ◌+◌, ℕ, inl, inr, Option, Some, None, option_map, List, length, slice_index, slice_index_or, if◌then◌else◌, refl, sym, ◌∙◌, ap, subst, arith}
+use Rattle.std.proofs.Common.{◌≡◌, ◌<◌, ◌+◌, ℕ, inl, inr, Option, Some, None, option_map, List, slice_index, slice_index_or, if◌then◌else◌, refl, sym, ◌∙◌, ap, subst, arith}
 use Rattle.std.proofs.lemmas.Bool.{cases_eq, ne_eqb}
 use Rattle.std.proofs.lemmas.List.{get_or_read}
 use Rattle.net_names.specs.declared.routes.Rel.{Rel}

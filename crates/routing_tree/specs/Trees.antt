@@ -1,5 +1,5 @@
 -- Routing trees.
-use Rattle.std.specs.Prelude.{◌≡◌, ◌≢◌, ◌<◌, ◌⊎◌, ℕ, Bool, true, Option, Some, None, List, length, slice_get, slice_index}
+use Rattle.std.specs.Prelude.{◌≡◌, ◌≢◌, ◌<◌, ◌⊎◌, ℕ, true, Option, Some, None, List, length, slice_get, slice_index}
 use Rattle.net_names.specs.Numbers.{last_or}
 use Rattle.net_names.specs.declared.routes.State.{State}
 use Rattle.as_graph.specs.Topology.{Topology, has, relation}

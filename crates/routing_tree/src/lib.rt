@@ -1,6 +1,6 @@
 //! The stable routing of a prefix as a routing tree, without its paths: of each AS how long the path is that it holds, from
-//! which neighbour it has it, and at whom its packets end (Gill, Schapira and Goldberg, "Modeling on Quicksand", 2012,
-//! appendix on fast routing trees).
+//! which neighbour it has it, and at whom its packets end (the routing trees of Gill, Schapira and Goldberg, "Let the Market
+//! Drive Deployment", 2011).
 //!
 //! It serves where each announced path is the announcer alone, where nobody leaks, and where each policy hands routes on as
 //! the plain one does and sets no mark. ASes stand at their places in an order by rank, so that nothing is looked up by

@@ -6,4 +6,4 @@ pub mod Front
 pub mod Parts
 pub mod Written
 pub mod Least
-pub mod Low
+pub mod Fronts

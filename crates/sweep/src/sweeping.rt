@@ -46,17 +46,6 @@ fn first_of(ks: &[u32]) -> usize
     }
 }
 
-// The greatest number, or 0 where there is none.
-fn most_of(ks: &[u32]) -> usize
-    ensures most { All (λ k. k ≤ result) ks.now }
-    ensures few { (n : ℕ) → All (λ k. k ≤ n) ks.now → result ≤ n }
-{
-    match ks.iter().copied().max() {
-        Some(k) => k as usize,
-        None => 0,
-    }
-}
-
 // The worlds of one trial: puts the adopters of the trial before back, and appends the rows of a trial for each number of
 // adopters to its text. It says how many of the first ASes of the order have the kind at last.
 fn run_trial<T: Trial>(
@@ -154,10 +143,10 @@ fn sweep_all<T: Trial, O: Sink>(
     let mut last: Vec<(Asn, Kind)> = Vec::new(alloc);
     let mut held: usize = 0;
     let ks = line.ks.as_slice();
-    let most = most_of(ks);
+    let mut draws: Vec<u64> = Vec::new(alloc);
     'trials: for t in 0..line.trials {
         let word = next_word(&mut rng);
-        let order = order_of(alloc, standing, word, most)?;
+        let order = order_of(alloc, standing, word, ks, &mut draws)?;
         let adopted = &last.as_slice()[..held];
         let from = first_len(texts);
         held = run_trial(alloc, trial, line, t + 1, adopted, order.as_slice(), texts)?;

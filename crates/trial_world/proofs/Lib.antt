@@ -22,3 +22,4 @@ mod Keeping
 mod TouchedAround
 pub mod Following
 mod Lines
+mod Begun

@@ -1,5 +1,5 @@
 //! Laws of sweeps over a world.
-ghost use Rattle.trial_world.specs.Laws.{OneSweptText, SweptNumbersAreReported};
+ghost use Rattle.trial_world.specs.Laws.{BegunRowsAreAFront, OneSweptText, SweptNumbersAreReported};
 
 use policy_kinds::Kind;
 use stability_laws::one_stable_routing;
@@ -14,6 +14,13 @@ pub fn one_swept_text()
 /// The numbers of a sweep are those that a report counts by what is kept of the trial's world.
 pub fn swept_numbers_are_reported()
     ensures { SweptNumbersAreReported }
+{
+    one_stable_routing::<Kind>();
+}
+
+/// The rows of a line that were written before memory ran out are a front of the line's one text.
+pub fn begun_rows_are_a_front()
+    ensures { BegunRowsAreAFront }
 {
     one_stable_routing::<Kind>();
 }

@@ -3,8 +3,8 @@
 //! [`is_inside`] tells whether a line of a sweep is in a world, and [`put_sweep`] writes the text of a line that is. For
 //! a line it keeps what the line asks for alone: the announcements of the prefixes that hold its address, the rounds up to
 //! its round, and one watch. From one world of a trial to the next the rounds and the watch are edited where few ASes
-//! change, and made anew where many do. The laws say that a line has one text, and that its numbers are those that a report
-//! over the world of the trial counts.
+//! change, and made anew where many do. The laws say that a line has one text, that rows which were
+//! begun are a front of it, and that its numbers are those that a report over the world of the trial counts.
 #![tactic(auto)]
 
 mod fixed;
@@ -21,5 +21,5 @@ mod trees;
 mod trial;
 
 pub use inside::is_inside;
-pub use laws::{one_swept_text, swept_numbers_are_reported};
+pub use laws::{begun_rows_are_a_front, one_swept_text, swept_numbers_are_reported};
 pub use sweeping::put_sweep;

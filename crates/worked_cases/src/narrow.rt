@@ -54,7 +54,6 @@ impl RoutePolicy for Narrow {
         false
     }
 
-    #[tactic(auto, using(crate::specs::NarrowLaws::narrow_stance))]
     fn stance(&self, _all: Option<State>) -> Stance {
         Stance::Other
     }
