@@ -5,7 +5,7 @@ use Rattle.std.specs.Ordering.{nat_cmp}
 use Rattle.std.specs.FinSet as set
 use Rattle.std.proofs.lemmas.List.Elements.{All-head, All-tail}
 use Rattle.policy_kinds.specs.declared.kind.Kind.{Kind}
-use Rattle.sweep.specs.Swept.{HasRows, IsBegun, IsSwept, trial_kinds, trial_text, trials_in}
+use Rattle.sweep.specs.Swept.{IsBegun, IsSwept, trial_kinds, trial_text, trials_in}
 use Rattle.sweep.specs.declared.sweeps.Sweep.{Sweep}
 use Rattle.sweep.specs.declared.trial.Fate.{Fate}
 

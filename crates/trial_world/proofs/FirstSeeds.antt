@@ -1,5 +1,5 @@
 -- The seeds of a line that needs no paths: in each round those of the first, and each a path of its AS alone.
-use Rattle.std.proofs.Common.{◌≡◌, ℕ, zero, suc, ◌<◌, Bool, true, false, ◌&&◌, nat_lt, is_some, Option, None, Some, List, [], ◌∷◌, refl, sym, ap, ◌∙◌, arith, true≢false}
+use Rattle.std.proofs.Common.{◌≡◌, ℕ, zero, suc, ◌<◌, Bool, true, false, ◌&&◌, nat_lt, is_some, Option, None, Some, List, refl, sym, ap, ◌∙◌, arith, true≢false}
 use Rattle.net_names.specs.Prefixes.{PrefixValue}
 use Rattle.stability_laws.specs.Plans.{Plan, announced_path, announces, leaks_in}
 use Rattle.stability_laws.specs.Rounds.{seed_given, seeds_of}

@@ -1,5 +1,5 @@
 -- A book that has the policies of some ASes and the plain one for all others.
-use Rattle.std.proofs.Common.{◌≡◌, ◌==◌, ◌||◌, ℕ, Bool, true, false, cond, unwrap_or, Option, None, Some, List, [], ◌∷◌, map, refl, sym, ap, ◌∙◌, eqb-true}
+use Rattle.std.proofs.Common.{◌≡◌, ◌==◌, ◌||◌, ℕ, Bool, true, false, cond, unwrap_or, Option, None, Some, List, [], ◌∷◌, map, refl, ap, ◌∙◌, eqb-true}
 use Rattle.std.specs.Prelude.{if◌then◌else◌}
 use Rattle.std.specs.FinMap as fin
 use Rattle.std.specs.FinMap.Entries.{find}

@@ -1,8 +1,8 @@
 -- The part of a plan that an address and the rounds up to one depend on.
 use Rattle.std.proofs.Common.{◌≡◌, ℕ, ◌+◌, ◌<◌, ◌≤◌, Bool, true, false, ◌||◌, ◌&&◌, ◌==◌, is_some, cond, Option, None, Some, Result, Ok, Err, OnOk, OnErr, List, length, take, refl, sym, ap, ◌∙◌, arith, eqb-true, true≢false}
-use Rattle.std.specs.Prelude.{IsTrue, slice_get, slice_index}
+use Rattle.std.specs.Prelude.{slice_get, slice_index}
 use Rattle.std.specs.FinMap as fin
-use Rattle.std.specs.Ordering.{eq_by_cmp, nat_cmp}
+use Rattle.std.specs.Ordering.{eq_by_cmp}
 use Rattle.std.proofs.lemmas.Bool.{and_parts, eq-eqb}
 use Rattle.std.proofs.lemmas.List.Folds.{Any-from_list_any}
 use Rattle.std.proofs.lemmas.Option.{get_or_from_slice_get, slice_get_within, slice_get-get_or}
@@ -14,7 +14,7 @@ use Rattle.net_names.specs.Numbers.{occurs}
 use Rattle.net_names.specs.Orders.{announcement_total, exact_announcement, exact_prefix, prefix_total}
 use Rattle.net_names.specs.Prefixes.{PrefixValue, prefix_cmp}
 use Rattle.as_graph.proofs.RowAses.{same_test}
-use Rattle.stability_laws.specs.Plans.{IsSound, ListsRising, Plan, announced_path, announcement_cmp, announcer_of, announcers_of, announces, empty_plan, has_prefix, leakers_of, leaks_in, prefixes_of, with_announcement, with_leaker}
+use Rattle.stability_laws.specs.Plans.{IsSound, Plan, announced_path, announcement_cmp, announcer_of, announcers_of, announces, empty_plan, has_prefix, leaks_in, prefixes_of, with_announcement, with_leaker}
 use Rattle.stability_laws.proofs.KeyLists.{eq_is, eq_same}
 use Rattle.stability_laws.proofs.Leaking.{occurs_more}
 use Rattle.stability_laws.proofs.Listing.{at_next, occurs_at, take_next}

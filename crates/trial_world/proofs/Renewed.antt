@@ -1,20 +1,17 @@
 -- Trees that are grown anew are those of the policies of the book.
-use Rattle.std.proofs.Common.{◌≡◌, ◌≢◌, inl, inr, ℕ, ◌<◌, ◌≤◌, Bool, true, false, IsTrue, is_some, Option, None, Some, List, length, get_or, refl, sym, ap, subst, ◌∙◌, arith, true≢false}
+use Rattle.std.proofs.Common.{◌≡◌, ℕ, ◌<◌, Bool, true, false, is_some, Option, None, Some, List, length, get_or, refl, sym, ap, subst, ◌∙◌, arith, true≢false}
 use Rattle.std.specs.Prelude.{All, Vec, slice_get, slice_index, if◌then◌else◌}
 use Rattle.std.specs.Global.{Global}
-use Rattle.std.proofs.lemmas.Option.{get_or_from_slice_get, slice_get-get_or, slice_get_read, slice_get_within}
+use Rattle.std.proofs.lemmas.Option.{get_or_from_slice_get, slice_get-get_or, slice_get_within}
 use Rattle.net_names.specs.Numbers.{occurs}
 use Rattle.net_names.specs.Prefixes.{IsPrefix, PrefixValue}
-use Rattle.net_names.specs.declared.routes.State.{State}
-use Rattle.as_graph.specs.Topology.{Topology, has, relation}
-use Rattle.as_graph.specs.declared.build.TheConstants.{MOST_ASES}
-use Rattle.as_places.specs.Places.{PlacedAses, place_of}
+use Rattle.as_graph.specs.Topology.{has, relation}
+use Rattle.as_places.specs.Places.{place_of}
 use Rattle.as_places.proofs.PlaceLemmas.{at_place, has_place}
 use Rattle.origin_validation.specs.Judging.{state_of}
 use Rattle.policy_kinds.specs.Kinds.{kind_policy}
 use Rattle.policy_kinds.specs.declared.kind.Kind.{Kind}
 use Rattle.policy_kinds.specs.declared.kind.Kind.TheVariants.{Plain}
-use Rattle.policy_laws.specs.Policy.{Policy}
 use Rattle.rank_order.specs.Ranks.{IsRankOrder, rank_at}
 use Rattle.stability_laws.specs.Book.{PolicyBook, policy_at}
 use Rattle.stability_laws.specs.Laws.{OneStableRouting, PathsGoOn, RightFollows}
@@ -22,7 +19,6 @@ use Rattle.stability_laws.specs.Plans.{IsSound, has_prefix}
 use Rattle.stability_laws.specs.Stable.{IsStable}
 use Rattle.stability_laws.specs.World.{setting}
 use Rattle.stability_laws.specs.declared.entry.Entry.{Entry}
-use Rattle.stability_laws.specs.declared.entry.Seed.{Seed}
 use Rattle.data_trace.specs.Hops.{next_hop}
 use Rattle.data_trace.specs.declared.kinds.Hop.{Hop}
 use Rattle.sim_core.proofs.Standing.{stands}

@@ -1,17 +1,15 @@
 -- The prefix by which an AS sends is the one of which it has an entry where all others with one are shorter.
-use Rattle.std.proofs.Common.{◌≡◌, inl, inr, ℕ, ◌+◌, ◌-◌, ◌*◌, ◌/◌, ◌%◌, ◌^◌, ◌<◌, ◌≤◌, ◌&&◌, ◌==◌, Bool, true, IsTrue, is_some, Option, None, Some, List, refl, sym, ap, ◌∙◌, arith, eqb-true}
-use Rattle.std.specs.Prelude.{filter}
-use Rattle.std.specs.List.{Contains, reduce}
+use Rattle.std.proofs.Common.{◌≡◌, inl, inr, ℕ, ◌-◌, ◌*◌, ◌/◌, ◌%◌, ◌^◌, ◌≤◌, ◌&&◌, ◌==◌, Bool, true, is_some, Option, None, Some, refl, sym, ap, ◌∙◌, eqb-true}
+use Rattle.std.specs.List.{Contains}
 use Rattle.std.proofs.lemmas.Bool.{and_parts}
 use Rattle.net_names.specs.Addresses.{AddrValue, width}
 use Rattle.net_names.specs.Coverage.{has_bits, holds}
 use Rattle.net_names.specs.Prefixes.{IsPrefix, PrefixValue}
-use Rattle.net_names.specs.declared.addresses.Family.{Family}
 use Rattle.net_names.proofs.Shortening.{div-mul_whole, family_is}
 use Rattle.stability_laws.specs.Plans.{Plan, prefixes_of}
 use Rattle.stability_laws.specs.declared.entry.Entry.{Entry}
 use Rattle.data_trace.specs.Hops.{sent_by}
-use Rattle.data_trace.proofs.Longest.{IsBestOf, best_of, longer_of, none_of}
+use Rattle.data_trace.proofs.Longest.{IsBestOf, best_of, none_of}
 
 abbrev pub IsWhole : PrefixValue → Type 0
 IsWhole p = IsPrefix p.family p.addr p.len

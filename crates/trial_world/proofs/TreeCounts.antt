@@ -1,20 +1,17 @@
 -- What the ends by place count.
-use Rattle.std.proofs.Common.{◌≡◌, ◌≢◌, ◌⊎◌, inl, inr, ℕ, zero, suc, ◌+◌, ◌-◌, ◌<◌, ◌==◌, Bool, true, false, cond, Option, None, Some, List, [], ◌∷◌, length, get_or, refl, sym, ap, ◌∙◌, arith, eqb-true, true≢false}
-use Rattle.std.specs.Prelude.{count_by, nat_eq, slice_get, slice_index, if◌then◌else◌}
+use Rattle.std.proofs.Common.{◌≡◌, ◌≢◌, ℕ, zero, suc, ◌+◌, ◌-◌, ◌<◌, ◌==◌, Bool, true, false, cond, Option, None, Some, List, [], ◌∷◌, length, refl, sym, ap, ◌∙◌, arith, eqb-true, true≢false}
+use Rattle.std.specs.Prelude.{count_by, nat_eq, slice_index, if◌then◌else◌}
 use Rattle.std.specs.List.{IsDistinct}
 use Rattle.std.specs.Option.{option_map_or}
 use Rattle.std.proofs.lemmas.Bool.{eq-eqb, ne_eqb, false_from_ne_true}
-use Rattle.std.proofs.lemmas.Option.{get_or_from_slice_get, slice_get_within}
+use Rattle.std.proofs.lemmas.Option.{get_or_from_slice_get}
 use Rattle.as_places.specs.Places.{place_of}
 use Rattle.as_places.proofs.PlaceLemmas.{at_place, place_at}
 use Rattle.data_trace.specs.Watches.{is_end}
 use Rattle.data_trace.specs.contracts.kinds.EndPartialEq.TheImpl as same_end_test
 use Rattle.data_trace.specs.declared.kinds.End.{End}
 use Rattle.data_trace.specs.declared.kinds.End.TheVariants as the_end
-use Rattle.sweep.specs.declared.trial.Fate.{Fate}
-use Rattle.sweep.specs.declared.trial.Fate.TheVariants as fate
 use Rattle.sim_core.proofs.Rows.{is_end_same, one_more}
-use Rattle.trial_world.specs.Sweeps.{end_of}
 
 -- the end that stands for a number: none is known where it is 0, else it is at the AS of the place below it
 abbrev pub end_by : List ℕ → ℕ → End

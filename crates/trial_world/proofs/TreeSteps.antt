@@ -1,5 +1,5 @@
 -- How the trees of a line are made, one seed and one prefix after the other.
-use Rattle.std.proofs.Common.{◌≡◌, ◌⊎◌, inl, inr, ℕ, zero, suc, ◌+◌, ◌-◌, ◌<◌, ◌≤◌, Bool, true, false, is_some, Option, None, Some, List, [], ◌∷◌, ◌++◌, length, map, get_or, refl, sym, ap, subst, ◌∙◌, arith, true≢false}
+use Rattle.std.proofs.Common.{◌≡◌, inl, inr, ℕ, zero, suc, ◌+◌, ◌-◌, ◌<◌, ◌≤◌, Bool, true, false, is_some, Option, None, Some, List, [], ◌∷◌, ◌++◌, length, map, get_or, refl, sym, ap, subst, ◌∙◌, arith, true≢false}
 use Rattle.std.specs.Prelude.{All, slice_get, slice_index}
 use Rattle.std.proofs.lemmas.Option.{get_or_from_slice_get, slice_get-get_or, slice_get_within}
 use Rattle.std.specs.List.Sorted.{IsNonDecreasingBy, IsPermutation}
@@ -7,21 +7,18 @@ use Rattle.std.proofs.lemmas.List.Sorted.{Contains-permutation}
 use Rattle.net_names.specs.Addresses.{width}
 use Rattle.net_names.specs.declared.addresses.Family.{Family}
 use Rattle.net_names.specs.declared.addresses.Family.TheVariants.{V4, V6}
-use Rattle.net_names.specs.Numbers.{occurs}
 use Rattle.net_names.specs.Prefixes.{PrefixValue}
 use Rattle.as_graph.specs.Topology.{has}
-use Rattle.as_places.specs.Places.{place_of}
 use Rattle.as_places.proofs.PlaceLemmas.{place_at}
 use Rattle.origin_validation.specs.Judging.{state_of}
 use Rattle.rank_order.specs.Ranks.{IsRankOrder, rank_at}
-use Rattle.stability_laws.specs.Plans.{IsAnnouncer, Plan, announced_path, announcers_of, announces, has_prefix, prefixes_of}
-use Rattle.stability_laws.specs.declared.entry.Seed.{Seed}
+use Rattle.stability_laws.specs.Plans.{Plan, announced_path, announcers_of, announces, prefixes_of}
 use Rattle.stability_laws.proofs.Listing.{at_next}
 use Rattle.stability_laws.proofs.PlanListings.{announcers_listed}
-use Rattle.routing_tree.specs.Placed.{AreSeedsAt, own_seed}
+use Rattle.routing_tree.specs.Placed.{own_seed}
 use Rattle.routing_tree.specs.declared.tree.PlacedSeed.{PlacedSeed}
 use Rattle.trial_world.specs.Fixed.{IsFixed}
-use Rattle.trial_world.specs.Trees.{AnnounceThemselves, AreSeedsFor, AreTreesFor, IsTreeFor, NeedsNoPaths, first_seeds}
+use Rattle.trial_world.specs.Trees.{AreSeedsFor, AreTreesFor, IsTreeFor, NeedsNoPaths, first_seeds}
 use Rattle.trial_world.specs.declared.fixed.Fixed.{Fixed}
 use Rattle.trial_world.specs.declared.trees.PrefixTree.{PrefixTree}
 use Rattle.trial_world.proofs.FirstSeeds.{seed_announces, seed_away, seed_there}

@@ -1,27 +1,25 @@
 -- The routing trees of a trial: at whom packets end by them, and what is counted by them.
-use Rattle.std.proofs.Common.{◌≡◌, ◌≢◌, ◌⊎◌, inl, inr, ℕ, zero, suc, ◌-◌, ◌<◌, ◌≤◌, ◌==◌, ◌&&◌, Bool, true, false, IsTrue, is_some, Option, None, Some, List, [], ◌∷◌, length, get_or, refl, sym, ap, subst, ◌∙◌, ◌+◌, arith, true≢false}
+use Rattle.std.proofs.Common.{◌≡◌, ◌≢◌, inl, inr, ℕ, suc, ◌-◌, ◌<◌, ◌≤◌, ◌==◌, ◌&&◌, Bool, true, false, is_some, Option, None, Some, List, [], ◌∷◌, length, refl, sym, ap, subst, ◌∙◌, ◌+◌, arith, true≢false}
 use Rattle.std.specs.Prelude.{count_by, nat_eq, slice_get, slice_index, option_and_then, if◌then◌else◌}
 use Rattle.std.specs.List.{IsDistinct}
 use Rattle.std.specs.Option.{option_map_or}
 use Rattle.std.proofs.lemmas.Bool.{and_parts, cases_eq, cases_lt, eq-eqb, eqb-true, ne_eqb}
 use Rattle.std.proofs.lemmas.Map.Keys.{IsDistinct-from_apart}
 use Rattle.std.proofs.lemmas.Option.{get_or_from_slice_get, slice_get-get_or, slice_get_within}
-use Rattle.net_names.specs.Addresses.{AddrValue}
 use Rattle.net_names.specs.Coverage.{holds}
 use Rattle.net_names.specs.Numbers.{occurs}
 use Rattle.net_names.specs.Prefixes.{IsPrefix, PrefixValue}
 use Rattle.net_names.specs.declared.routes.State.{State}
-use Rattle.as_graph.specs.Topology.{Topology, has, relation}
+use Rattle.as_graph.specs.Topology.{has, relation}
 use Rattle.as_places.specs.Places.{place_of}
 use Rattle.as_places.proofs.PlaceLemmas.{at_place, has_place}
 use Rattle.origin_validation.specs.Judging.{state_of}
 use Rattle.policy_kinds.specs.Kinds.{kind_policy}
 use Rattle.policy_kinds.specs.declared.kind.Kind.{Kind}
-use Rattle.policy_laws.specs.Policy.{Policy}
 use Rattle.roa_table.specs.Sets.{Payloads}
 use Rattle.stability_laws.specs.Book.{PolicyBook, policy_at}
 use Rattle.stability_laws.specs.Entries.{seed_entry}
-use Rattle.stability_laws.specs.Laws.{OneStableRouting, PathsGoOn, RightFollows}
+use Rattle.stability_laws.specs.Laws.{PathsGoOn}
 use Rattle.stability_laws.specs.Plans.{IsSound, Plan, announced_path, announces, has_prefix, prefixes_of}
 use Rattle.stability_laws.specs.Rounds.{AreRounds, seeds_of}
 use Rattle.stability_laws.specs.Stable.{IsRightGiven, IsStable}
@@ -32,7 +30,6 @@ use Rattle.stability_laws.specs.declared.entry.Seed.{Seed}
 use Rattle.data_trace.specs.Hops.{next_hop, second_of, sent_by}
 use Rattle.data_trace.specs.Traces.{EndsBy, IsTrace}
 use Rattle.data_trace.specs.contracts.kinds.EndPartialEq.TheImpl as same_end_test
-use Rattle.data_trace.specs.declared.kinds.End.{End}
 use Rattle.data_trace.specs.declared.kinds.End.TheVariants as the_end
 use Rattle.data_trace.specs.declared.kinds.Hop.{Hop}
 use Rattle.data_trace.specs.declared.kinds.Hop.TheVariants.{Here, NoRoute, To}
@@ -41,11 +38,11 @@ use Rattle.sweep.specs.declared.trial.Fate.TheVariants as fate
 use Rattle.sim_core.proofs.Standing.{stands}
 use Rattle.routing_tree.specs.Ends.{AreEnds, hop_by}
 use Rattle.routing_tree.specs.Placed.{own_seed}
-use Rattle.routing_tree.specs.Trees.{IsGrown, IsHeldAt, IsNode, IsTreeOf}
+use Rattle.routing_tree.specs.Trees.{IsHeldAt, IsNode, IsTreeOf}
 use Rattle.routing_tree.specs.declared.tree.RoutingTree.{RoutingTree}
 use Rattle.trial_world.specs.Fixed.{IsFixed, world_of}
 use Rattle.trial_world.specs.Sweeps.{end_of}
-use Rattle.trial_world.specs.Trees.{AreTreesFor, AreTreesIn, HoldsNoneBefore, IsTreeFor, SendByFirst, count_by_ends, first_seeds}
+use Rattle.trial_world.specs.Trees.{AreTreesFor, AreTreesIn, HoldsNoneBefore, SendByFirst, count_by_ends, first_seeds}
 use Rattle.trial_world.specs.Trials.{AreEndsIn}
 use Rattle.trial_world.specs.declared.fixed.Fixed.{Fixed}
 use Rattle.trial_world.specs.declared.trees.LineTrees.{LineTrees}

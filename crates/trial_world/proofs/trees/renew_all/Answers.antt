@@ -1,4 +1,4 @@
-use Rattle.std.proofs.Common.{◌≡◌, ◌∙◌, ◌<◌, ℕ, length, ap, sym, subst, arith}
+use Rattle.std.proofs.Common.{◌≡◌, ◌∙◌, ◌<◌, ℕ, length, sym, subst, arith}
 use Rattle.std.specs.Prelude.{All}
 use Rattle.routing_tree.specs.declared.tree.PlacedSeed.{PlacedSeed}
 use Rattle.routing_tree.specs.Trees.{HasPlaces, ParentsComeFirst}
