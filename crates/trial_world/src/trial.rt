@@ -15,8 +15,8 @@ use rank_order::by_rank;
 use stability_laws::{Book, plans_are_sound, right_follows};
 use sweep::{Fate, Sweep, Trial};
 
-/// A trial of a line: the kind of each AS now, the tables of the line's rounds with the watch for its address, and how many
-/// of the ASes at the start are none of this world.
+/// A trial of a line: the kind of each AS now, the line's tables or trees in its world, and how many of the ASes at the start
+/// are none of this world.
 #[derive(Drop)]
 pub struct LineTrial<'a> {
     pub(crate) fixed: Fixed<'a>,
