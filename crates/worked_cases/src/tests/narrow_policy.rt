@@ -164,7 +164,8 @@ fn cut<L: Ledger>(
     };
     let (table, pool) = (&mut at.table, &mut at.pool);
     assert!(rt; world.graph.has(origin));
-    assert!(rt; pool.live() < 50 && world.graph.as_count() < 20);
+    assert!(rt; pool.live() < 50);
+    assert!(rt; world.graph.as_count() < 20);
     match plan_edit(alloc, &world, &ranks, &edit, table, pool, steps) {
         Ok(overlay) => overlay,
         Err(_) => panic!(rt; "memory"),
